@@ -1,4 +1,4 @@
-/* texcache.h: textures of a folder of TIFF files, for programs in C and C++.
+/* texcache.h: textures of folders of TIFF files, for programs in C and C++.
  *
  * Declarations alone; the functions are in libtexcache.a and libtexcache.so.1. How to build and link: docs/INSTALL.md.
  *
@@ -34,11 +34,11 @@
 #include <stdint.h>
 
 /* The version of this header, as in the file VERSION. The library has one too: texcache_version(). */
-#define TEXCACHE_VERSION "1.0.0-rc3"
+#define TEXCACHE_VERSION "1.0.0-rc4"
 
 /* The calls that open a cache have the version in their symbol. So a program does not link with a library of another
- * version, whose structs and calls may differ: texcache_open_1_0_0_rc3 is then undefined. */
-#define TEXCACHE_SYMBOL(name) __asm__(name "_1_0_0_rc3")
+ * version, whose structs and calls may differ: texcache_open_1_0_0_rc4 is then undefined. */
+#define TEXCACHE_SYMBOL(name) __asm__(name "_1_0_0_rc4")
 
 #ifdef __cplusplus
 extern "C" {
@@ -51,7 +51,7 @@ enum texcache_status {
     TEXCACHE_OK = 0,
     TEXCACHE_NEEDED = 1,            /* the library needs bytes; only calls of texcache_supply.h answer this */
     TEXCACHE_BAD_OPTIONS = 2,       /* detail: 1 budget, 2 shards, 3 passes, 4 handles, 5 autotile, 6 slots */
-    TEXCACHE_NO_FILE = 3,           /* no file has this number */
+    TEXCACHE_NO_FILE = 3,           /* texcache_find gave no file this number */
     TEXCACHE_BAD_REQUEST = 4,       /* a number is out of range; detail: enum texcache_bad_number, or 0 for a region */
     TEXCACHE_SMALL_BUFFER = 5,      /* value: how many values there are */
     TEXCACHE_NO_PERMIT = 6,         /* the cache has as many passes as it may have */
@@ -65,7 +65,7 @@ enum texcache_status {
     TEXCACHE_REGION_TOO_LARGE = 14, /* more than 1048576 texels */
     TEXCACHE_HOLDS_FULL = 15,       /* the pass holds four tiles */
     TEXCACHE_AGAIN = 16,            /* the file was replaced each time it was read, 64 times */
-    TEXCACHE_READ_FAULT = 17,       /* the file is gone, cannot be read, or was replaced each time it was opened */
+    TEXCACHE_READ_FAULT = 17,       /* the file is gone or cannot be read */
     TEXCACHE_NO_MEMORY = 18,
     TEXCACHE_BUSY = 19,             /* other threads used a part of the cache for some ten seconds */
     TEXCACHE_NOT_NEEDED = 20,       /* 20 to 25: a supply that does not match what the library needs */
@@ -75,13 +75,14 @@ enum texcache_status {
     TEXCACHE_SHORT = 24,
     TEXCACHE_LONG = 25,
     TEXCACHE_NO_FOLDER = 40,        /* the folder cannot be opened or read */
-    TEXCACHE_TOO_MANY_FILES = 41,   /* more than 4096 plain files */
-    TEXCACHE_NO_NAME = 42,          /* the folder had no plain file of this name */
+    TEXCACHE_TOO_MANY_FILES = 41,   /* the cache has 4096 files already */
+    TEXCACHE_NO_NAME = 42,          /* no plain file is found under this name */
     TEXCACHE_IN_USE = 43,           /* another call runs in this pass */
     TEXCACHE_CLOSED = 44,           /* the pass has ended */
     TEXCACHE_PASSES_LEFT = 45,      /* a pass of the cache has not ended */
     TEXCACHE_FORKED = 46,           /* the cache or pass was made before a fork, and this is the child */
     TEXCACHE_BAD_ARGUMENT = 47,     /* an argument is NULL, or a struct of options has another size */
+    TEXCACHE_NO_TILE = 49,          /* a UDIM set has no file for a lookup; detail: the tile, or 0; value: the lookup */
     TEXCACHE_OTHER_THREAD = 48      /* only the thread whose pass texcache_this_thread made may end it */
 };
 
@@ -127,13 +128,17 @@ typedef struct texcache_options {
     uint32_t autotile;  /* the side of the cells of a stripped level: 0, or a multiple of 16 up to 4096 */
     uint32_t slots;     /* rows kept when a tile finds no memory, 0 to 65536; some 1,100 bytes each */
     bool automip;       /* generate the other levels of a file that stores one */
+    bool outside_paths; /* find files outside of the folder and the search path too */
+    bool refuse_links;  /* find no file whose path has a symbolic link behind these folders */
+    const char *search_path;  /* more folders, separated by colons, or NULL; only texcache_open reads it */
+    uint32_t missing_ms;      /* milliseconds for which a file that is gone is not looked for again; 0: always look */
 } texcache_options;
 
 /* The default options, those of the program. */
 texcache_options texcache_default_options(void);
 
-/* A cache of the plain files that the folder has now, without symbolic links. Options may be NULL. On an error the cache
- * is NULL. */
+/* A cache of the files of a folder and of the search path, which are found when texcache_find asks for them. Options may
+ * be NULL. On an error the cache is NULL. */
 int texcache_open(texcache **cache, const char *folder, const texcache_options *options)
     TEXCACHE_SYMBOL("texcache_open");
 
@@ -157,14 +162,43 @@ int texcache_end(texcache_pass **pass);
 
 /* ---- files */
 
-/* The number of files in the folder. */
+/* The number of the file that a name means, which is the same at each call. A cache has numbers for 4096 files.
+ *
+ * The name is a path: of subfolders too, and also of a file that came after texcache_open. It is looked for in the
+ * folder, then in each folder of the search path. The first plain file counts, or link to one; it keeps its number even
+ * if it is deleted. Before that a name is made normal by its text alone: ./a.tif, b/../a.tif and a.tif are one file. An
+ * absolute path, or one that leaves its folder by `..`, has to lie in one of these folders, unless the option
+ * outside_paths is set.
+ *
+ * TEXCACHE_NO_NAME: no file is found; texcache_last_error says why. TEXCACHE_TOO_MANY_FILES: all numbers are used. */
+int texcache_find(texcache *cache, const char *name, uint32_t *file);
+
+/* Finds each plain file that a folder has now, in the order of the names, and says how many there are in *count, which
+ * may be NULL. The folder is relative to the cache's, which is "." itself. If all numbers are used, that is
+ * TEXCACHE_TOO_MANY_FILES, and the files before keep theirs. */
+int texcache_find_all(texcache *cache, const char *folder, uint32_t *count);
+
+/* A name with the mark <UDIM>, as wall.<UDIM>.tif, means a set of files, one for each unit square of s and t: the tile at
+ * s and t has the number 1001 + u + 10 * v, where u and v are the whole parts of s and t, rounded down. u is 0 to 9, and
+ * the number at most 9999. The set has a number too, from 2^31 on, which all lookups take. Each lookup is made in the
+ * file of its tile, at the rest of s and t. A tile without a file is TEXCACHE_NO_TILE. A cache has at most 1024 sets. */
+
+/* Whether this is the number of a set. */
+bool texcache_is_udim(const texcache *cache, uint32_t file);
+
+/* The number of the file of a tile of a set, for the calls that are no lookups. */
+int texcache_udim_file(texcache *cache, uint32_t set, uint32_t tile, uint32_t *file);
+
+/* The numbers of the tiles of a set that have a file now, or had one that was found, in their order. *count, which may be
+ * NULL, says how many there are. If that is more than `room`, the first are written, and it is TEXCACHE_SMALL_BUFFER. */
+int texcache_udim_tiles(texcache *cache, uint32_t set, uint32_t *tiles, size_t room, size_t *count);
+
+/* How many files have been found. Their numbers are below this. */
 uint32_t texcache_file_count(const texcache *cache);
 
-/* The name of a file, or NULL if no file has this number. */
+/* The path of a file, or NULL if no file has this number: relative to the cache's folder if it is in there, otherwise
+ * absolute. It stays as long as the cache. */
 const char *texcache_file_name(const texcache *cache, uint32_t file);
-
-/* The number of the file with this name. */
-int texcache_find(const texcache *cache, const char *name, uint32_t *file);
 
 /* What a file is. */
 typedef struct texcache_info {
@@ -262,7 +296,8 @@ int texcache_texture_footprint(texcache_pass *pass, uint32_t file, const texcach
  * `done`, which may be NULL, says how many lookups stand. After success these are all. If a number is out of range they
  * are none, and nothing was written. After another error the first `done` lookups stand, all of the generation that the
  * answer names; the values behind them are unchanged unless the file was replaced during the call. If it is replaced
- * 64 times during the call, that is TEXCACHE_AGAIN. Nothing is allocated, except for tiles that the cache lacks; a call
+ * 64 times during the call, that is TEXCACHE_AGAIN. In a UDIM set each lookup is made in its own tile; lookups of several
+ * files or versions have the generation 0. Nothing is allocated, except for tiles that the cache lacks; a call
  * makes parts of at most 64 lookups. */
 int texcache_texture_many(texcache_pass *pass, uint32_t file, const texcache_texture_options *options,
                           const texcache_coordinates *at, size_t count, uint16_t *out, size_t room, size_t *done,
@@ -374,7 +409,8 @@ int texcache_release_tile(texcache_pass *pass, size_t place);
 /* ---- replaced files */
 
 /* Looks at a file again. If it was replaced, older versions are dropped. With force that happens in any case, and the
- * file is opened anew. The answer has the newest generation. */
+ * file is opened anew. The answer has the newest generation. Of a UDIM set it does so for each file that was found, and
+ * then answers as texcache_invalidate_all. */
 int texcache_invalidate(texcache_pass *pass, uint32_t file, bool force, texcache_answer *answer);
 
 /* Does so, without force, for each known file, in the order of their numbers, and goes on past a file that fails. It

@@ -1,4 +1,4 @@
-// texcache.hpp: textures of a folder of TIFF files, for programs in C++14 or later. Header only, over texcache.h.
+// texcache.hpp: textures of folders of TIFF files, for programs in C++14 or later. Header only, over texcache.h.
 //
 //     texcache_cpp::Cache cache("textures");
 //     texcache_cpp::Pass pass = cache.this_thread();     // the calling thread's
@@ -98,14 +98,14 @@ private:
 
 class Pass;
 
-// A cache of the plain files of a folder. It is closed when the Cache and each Pass that you made of it are gone.
+// A cache of the files of a folder and of a search path. It is closed when the Cache and each Pass that you made of it are gone.
 class Cache {
 public:
     explicit Cache(const std::string &folder, const texcache_options &options = texcache_default_options(),
                    Errors errors = Errors())
     {
         std::unique_ptr<Held> held(new Held);
-        if (errors.take(texcache_open(&held->cache, folder.c_str(), &options))) held_ = std::move(held);
+        if (is_text(folder, errors) && errors.take(texcache_open(&held->cache, folder.c_str(), &options))) held_ = std::move(held);
     }
 
     Cache(const std::string &folder, Errors errors) : Cache(folder, texcache_default_options(), errors) {}
@@ -120,20 +120,53 @@ public:
         if (errors.take(texcache_close(held_ ? &held_->cache : &none))) held_.reset();
     }
 
-    // The number of the file of this name.
+    // The number of the file that a name means: its path, in the folder or on the search path.
     std::uint32_t find(const std::string &name, Errors errors = Errors()) const
     {
         std::uint32_t file = UINT32_MAX;
-        errors.take(texcache_find(get(), name.c_str(), &file));
+        if (is_text(name, errors)) errors.take(texcache_find(get(), name.c_str(), &file));
         return file;
+    }
+
+    // Finds each plain file that a folder has now, and returns how many there are.
+    std::uint32_t find_all(const std::string &folder = ".", Errors errors = Errors()) const
+    {
+        std::uint32_t count = 0;
+        if (is_text(folder, errors)) errors.take(texcache_find_all(get(), folder.c_str(), &count));
+        return count;
     }
 
     // The pass of the calling thread. It ends with the thread or the cache, not with the Pass.
     Pass this_thread(Errors errors = Errors()) const;
 
+    // Whether this is the number of a UDIM set: find gives one for a name with the mark <UDIM>, and all lookups take it.
+    bool is_udim(std::uint32_t file) const noexcept { return texcache_is_udim(get(), file); }
+
+    // The numbers of the tiles of a set, and the number of a tile's file.
+    std::vector<std::uint32_t> udim_tiles(std::uint32_t set, Errors errors = Errors()) const
+    {
+        std::vector<std::uint32_t> tiles;
+        std::size_t count = 0;
+        int status = texcache_udim_tiles(get(), set, nullptr, 0, &count);
+        while (status == TEXCACHE_SMALL_BUFFER) {
+            tiles.resize(count);
+            status = texcache_udim_tiles(get(), set, tiles.data(), tiles.size(), &count);
+        }
+        tiles.resize(errors.take(status) ? count : 0);
+        return tiles;
+    }
+
+    std::uint32_t udim_file(std::uint32_t set, std::uint32_t tile, Errors errors = Errors()) const
+    {
+        std::uint32_t file = UINT32_MAX;
+        errors.take(texcache_udim_file(get(), set, tile, &file));
+        return file;
+    }
+
+    // How many files have been found.
     std::uint32_t file_count() const noexcept { return texcache_file_count(get()); }
 
-    // The name of a file, empty if no file has this number.
+    // The path of a file, empty if no file has this number.
     std::string file_name(std::uint32_t file) const
     {
         const char *name = texcache_file_name(get(), file);
@@ -168,6 +201,14 @@ private:
     };
 
     using Texts = int(texcache *, std::uint32_t, char *, std::size_t, std::size_t *);
+
+    // Whether C sees the whole name.
+    static bool is_text(const std::string &name, Errors errors)
+    {
+        if (name.find('\0') == std::string::npos) return true;
+        errors.refuse("the name has a zero byte");
+        return false;
+    }
 
     // The numbers may grow while they are asked for, so there is some more room.
     std::string text_of(Texts *call, std::uint32_t level, Errors errors) const

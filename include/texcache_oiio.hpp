@@ -350,6 +350,14 @@ inline bool has_udim(string_view name)
     return false;
 }
 
+// The name of a tile, empty if the pattern has no mark.
+inline ustring tile_name(const std::string &pattern, std::uint32_t tile)
+{
+    const std::string mark = "<UDIM>";
+    std::size_t at = pattern.find(mark);
+    return at == std::string::npos ? ustring() : ustring(pattern.substr(0, at) + std::to_string(tile) + pattern.substr(at + mark.size()));
+}
+
 // The levels whose texels have this width, in parts of the image: OpenImageIO's rule.
 inline Levels levels_of(const texcache_info &info, double width, bool is_one)
 {
@@ -546,8 +554,8 @@ public:
         if (why || !texture_handle || nchannels < 1 || !result) return fails(texture_handle, why, options, to);
         Perthread *own = thread_info ? thread_info : get_perthread_info();
         const detail::Facts *facts = texture_handle->facts_.load(std::memory_order_acquire);
-        if (!facts) return is_missing(texture_handle, options, to);
         detail::Place place = {s, t, dsdx, dtdx, dsdy, dtdy};
+        if (!facts) return in_tile(texture_handle, own, options, place, to);
         bool is_at_place = options.mipmode == TextureOpt::MipModeNoMIP
                            || (is_point(place) && options.sblur == 0 && options.tblur == 0);
         if (is_at_place && !dresultds && !dresultdt && is_quick(*texture_handle, own, *facts, options, s, t, to)) return true;
@@ -589,7 +597,7 @@ public:
             }
             facts = texture_handle->facts_.load(std::memory_order_acquire);
             detail::Place place = {s[i], t[i], dsdx[i], dtdx[i], dsdy[i], dtdy[i]};
-            if (!facts) is_good &= is_missing(texture_handle, one, to);
+            if (!facts) is_good &= in_tile(texture_handle, own, one, place, to);
             else is_good &= look_up(*texture_handle, access(own, *texture_handle->folder_), facts, one, place, to);
         }
         return is_good;
@@ -698,26 +706,33 @@ public:
                       chbegin, chend, format, result);
     }
 
-    // -- UDIM names are not looked up
+    // -- UDIM: names with the mark <UDIM>. Other marks are seen, and are errors
 
     bool is_udim(ustring filename) { return detail::has_udim(filename); }
     bool is_udim(TextureHandle *udimfile) { return udimfile && detail::has_udim(udimfile->name_); }
 
-    TextureHandle *resolve_udim(ustring udimpattern, float, float)
+    // The handle of the tile at s and t, or NULL if it has no file that can be read.
+    TextureHandle *resolve_udim(ustring udimpattern, float s, float t)
     {
-        says(udimpattern.string() + ": UDIM names are not looked up");
-        return nullptr;
+        return tile_at(udimpattern, get_perthread_info(), s, t);
     }
-    TextureHandle *resolve_udim(TextureHandle *udimfile, Perthread *, float s, float t)
+    TextureHandle *resolve_udim(TextureHandle *udimfile, Perthread *thread_info, float s, float t)
     {
-        return resolve_udim(filename_from_handle(udimfile), s, t);
+        return tile_at(filename_from_handle(udimfile), get_perthread_info(thread_info), s, t);
     }
 
+    // The names of the tiles, row by row. Those of tiles without a file are empty.
     void inventory_udim(ustring udimpattern, std::vector<ustring> &filenames, int &nutiles, int &nvtiles)
     {
-        filenames.clear();
+        const std::vector<std::uint32_t> tiles = tiles_of(udimpattern.string());
         nutiles = nvtiles = 0;
-        says(udimpattern.string() + ": UDIM names are not looked up");
+        for (std::uint32_t tile : tiles) {
+            nutiles = std::max(nutiles, int((tile - 1001) % 10) + 1);
+            nvtiles = std::max(nvtiles, int((tile - 1001) / 10) + 1);
+        }
+        filenames.assign(std::size_t(nutiles) * nvtiles, ustring());
+        for (std::uint32_t tile : tiles)
+            filenames[(tile - 1001) / 10 * nutiles + (tile - 1001) % 10] = detail::tile_name(udimpattern.string(), tile);
     }
     void inventory_udim(TextureHandle *udimfile, Perthread *, std::vector<ustring> &filenames, int &nutiles, int &nvtiles)
     {
@@ -993,6 +1008,53 @@ private:
         return handle->error_;
     }
 
+    // -- UDIM
+
+    TextureHandle *tile_at(ustring pattern, Perthread *own, double s, double t)
+    {
+        const double u = std::floor(s), v = std::floor(t), tile = 1001 + u + 10 * v;
+        const bool is_one = u >= 0 && u <= 9 && v >= 0 && tile <= 9999;
+        ustring name = is_one ? detail::tile_name(pattern.string(), std::uint32_t(tile)) : ustring();
+        TextureHandle *found = name.empty() ? nullptr : get_texture_handle(name, own);
+        if (good(found)) return found;
+        says(found ? why_not(found) : pattern.string() + ": this UDIM name has no such tile, or another mark than <UDIM>");
+        return nullptr;
+    }
+
+    // A lookup by a handle without a file: if it is that of a UDIM name, in the file of the tile.
+    bool in_tile(TextureHandle *handle, Perthread *own, TextureOpt &options, detail::Place place, const detail::Result &to)
+    {
+        TextureHandle *tile = is_udim(handle) ? tile_at(handle->name_, own, place.s, place.t) : nullptr;
+        const detail::Facts *facts = tile ? tile->facts_.load(std::memory_order_acquire) : nullptr;
+        if (!facts) return is_missing(handle, options, to);
+        place.s -= std::floor(place.s);
+        place.t -= std::floor(place.t);
+        return look_up(*tile, access(own, *tile->folder_), facts, options, place, to);
+    }
+
+    // The numbers of the tiles of a name, in the first folder of the search path that has one.
+    std::vector<std::uint32_t> tiles_of(const std::string &pattern)
+    {
+        std::vector<std::uint32_t> tiles(8999);
+        std::lock_guard<std::mutex> guard(state_->lock);
+        std::string path = pattern.empty() || pattern[0] == '/' ? "" : state_->searchpath;
+        for (std::size_t at = 0; at <= path.size();) {
+            std::size_t end = std::min(path.find_first_of(":;", at), path.size());
+            std::string tried = end > at ? path.substr(at, end - at) + "/" + pattern : pattern;
+            auto [folder, name] = detail::split(tried);
+            int status = TEXCACHE_OK;
+            std::uint32_t set;
+            std::size_t count = 0;
+            detail::Folder *in = folder_of(folder, status);
+            if (in && !texcache_find(in->cache, name.c_str(), &set)
+                && !texcache_udim_tiles(in->cache, set, tiles.data(), tiles.size(), &count))
+                return tiles.resize(count), tiles;
+            at = end + 1;
+        }
+        says(pattern + ": no tile of this UDIM name is found");
+        return {};
+    }
+
     // -- files and folders
 
     TextureHandle *handle_of(ustring filename, Perthread *own)
@@ -1018,7 +1080,7 @@ private:
     {
         std::unique_lock<std::mutex> guard(state_->lock);
         if (detail::has_udim(handle.name_)) {
-            handle.error_ = handle.name_.string() + ": UDIM names are not looked up";
+            handle.error_ = handle.name_.string() + ": this UDIM name has no such tile, or another mark than <UDIM>";
             return;
         }
         auto [folder, name] = detail::split(handle.path_);

@@ -1,4 +1,4 @@
-"""Textures of a folder of TIFF files, over the library of texcache.h.
+"""Textures of folders of TIFF files, over the library of texcache.h.
 
     import texcache
     with texcache.Cache("textures") as cache:

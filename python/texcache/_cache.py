@@ -16,8 +16,10 @@ from ._structs import (CLOSED, FLOAT, HALF, NOT_LOCAL, OK, SMALL_BUFFER, UINT16,
                        Lookup, Region, Results, Shard, Statistics, TextureOptions, Tile, Wrap, file_number, flag, real,
                        signed, texture_options, unsigned, whole)
 
-OPTIONS = ("budget", "shards", "passes", "handles", "autotile", "slots", "automip")
+OPTIONS = ("budget", "shards", "passes", "handles", "autotile", "slots", "automip", "search_path", "outside_paths",
+           "refuse_links", "missing_ms")
 MOST_TEXELS = 1048576  # of a region
+MOST_TILES = 8999  # of a UDIM set
 
 # the calls for one lookup, with 16-bit values and with floats
 ONE = lib.texcache_texture, lib.texcache_texture_float
@@ -69,6 +71,18 @@ def _path(what: str, name: Union[str, bytes, "os.PathLike[Any]"]) -> bytes:
     return found
 
 
+def _search_path(given: Any) -> Optional[bytes]:
+    """Folders as C takes them, with colons between them."""
+    if given is None or isinstance(given, (str, bytes)):
+        return None if given is None else _path("search_path", given)
+    folders = [given] if hasattr(given, "__fspath__") else list(given)
+    found = [_path("search_path", it) for it in folders]
+    for it in found:
+        if b":" in it or b";" in it:
+            raise ValueError(f"search_path has the folder {os.fsdecode(it)!r}, and a colon or semicolon divides folders")
+    return b":".join(found)
+
+
 def _ended(pass_: "Pass") -> None:
     """Ends a pass that nobody has any more. What fails here nobody could hear of."""
     if pass_._at:
@@ -76,7 +90,7 @@ def _ended(pass_: "Pass") -> None:
 
 
 class Cache:
-    """A cache of the plain files that a folder has when it is opened.
+    """A cache of the files of a folder and of a search path. A file is looked for when `find` asks for it.
 
     budget:   the bytes that tiles may take, 0 to 4294967296
     shards:   1 to 64
@@ -85,6 +99,10 @@ class Cache:
     autotile: the side of the cells of a stripped image: 0, or a multiple of 16 up to 4096
     slots:    rows kept when a tile finds no memory, 0 to 65536
     automip:  whether levels that a file does not have are generated
+    search_path:   more folders: a list, or a text with colons between them
+    outside_paths: whether files outside of these folders are found too
+    refuse_links:  whether no file is found whose path has a symbolic link behind these folders
+    missing_ms:    milliseconds for which a file that is gone is not looked for again; 0: always look
 
     What is not given has the library's default. A cache can be a context: `with texcache.Cache("textures") as cache`.
     Any thread may call it; each thread looks up through its own pass.
@@ -94,16 +112,21 @@ class Cache:
 
     def __init__(self, folder: Union[str, bytes, "os.PathLike[Any]"], *, budget: Optional[int] = None,
                  shards: Optional[int] = None, passes: Optional[int] = None, handles: Optional[int] = None,
-                 autotile: Optional[int] = None, slots: Optional[int] = None, automip: Optional[bool] = None) -> None:
+                 autotile: Optional[int] = None, slots: Optional[int] = None, automip: Optional[bool] = None,
+                 search_path: Union[None, str, bytes, "os.PathLike[Any]", Sequence[Any]] = None,
+                 outside_paths: bool = False, refuse_links: bool = False, missing_ms: Optional[int] = None) -> None:
         options = lib.texcache_default_options()
         if budget is not None:
             options.budget = whole("budget", budget, 0, 2 ** 64 - 1)
         for name, value in (("shards", shards), ("passes", passes), ("handles", handles), ("autotile", autotile),
-                            ("slots", slots)):
+                            ("slots", slots), ("missing_ms", missing_ms)):
             if value is not None:
                 setattr(options, name, unsigned(name, value))
         if automip is not None:
             options.automip = flag("automip", automip)
+        options.outside_paths = flag("outside_paths", outside_paths)
+        options.refuse_links = flag("refuse_links", refuse_links)
+        options.search_path = _search_path(search_path)
         self._folder, self._local, self._thread_passes = folder, threading.local(), weakref.WeakSet()  # type: ignore
         at, bad = c_void_p(), c_uint32()
         status = open_cache(byref(at), _path("folder", folder), byref(options), byref(bad))
@@ -142,17 +165,42 @@ class Cache:
             lib.texcache_close(byref(self._at))
 
     def __len__(self) -> int:
-        """How many files the folder has."""
+        """How many files have been found."""
         return int(lib.texcache_file_count(self._open()))
 
     def find(self, name: Union[str, bytes, "os.PathLike[Any]"]) -> int:
-        """The number of the file of this name."""
+        """The number of the file that a name means: a path in the folder or on the search path. It is the same at each
+        call, and for all names of the file, as ./wall.tif and sub/../wall.tif."""
         file = c_uint32()
         _check(lib.texcache_find(self._open(), _path("name", name), byref(file)))
         return file.value
 
+    def find_all(self, folder: Union[str, bytes, "os.PathLike[Any]"] = ".") -> int:
+        """Finds each plain file that a folder has now, in the order of the names, and gives how many there are."""
+        count = c_uint32()
+        _check(lib.texcache_find_all(self._open(), _path("folder", folder), byref(count)))
+        return count.value
+
+    def is_udim(self, file: int) -> bool:
+        """Whether this is the number of a UDIM set. `find` gives one for a name as wall.<UDIM>.tif, and all lookups take
+        it: each is made in the file of its tile, which has the number 1001 + u + 10 * v. u and v are the whole parts of s
+        and t."""
+        return bool(lib.texcache_is_udim(self._open(), file_number(file)))
+
+    def udim_tiles(self, file: int) -> List[int]:
+        """The numbers of the tiles of a UDIM set, in their order."""
+        count, tiles = c_size_t(), (c_uint32 * MOST_TILES)()
+        _check(lib.texcache_udim_tiles(self._open(), file_number(file), tiles, MOST_TILES, byref(count)))
+        return tiles[:count.value]
+
+    def udim_file(self, file: int, tile: int) -> int:
+        """The number of the file of a tile of a UDIM set, for calls that are no lookups."""
+        found = c_uint32()
+        _check(lib.texcache_udim_file(self._open(), file_number(file), unsigned("tile", tile), byref(found)))
+        return found.value
+
     def names(self) -> List[str]:
-        """The names of the files, in the order of their numbers."""
+        """The paths of the files that have been found, in the order of their numbers."""
         return [os.fsdecode(lib.texcache_file_name(self._at, n)) for n in range(len(self))]
 
     def _report(self, call: Any, level: int) -> str:

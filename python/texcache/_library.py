@@ -51,6 +51,9 @@ def _declared(library: ctypes.CDLL) -> ctypes.CDLL:
         "texcache_close": [POINTER(c_void_p)], "texcache_end": [POINTER(c_void_p)],
         "texcache_new_pass": [c_void_p, POINTER(c_void_p)],
         "texcache_find": [c_void_p, c_char_p, POINTER(c_uint32)],
+        "texcache_find_all": [c_void_p, c_char_p, POINTER(c_uint32)],
+        "texcache_udim_file": [c_void_p, c_uint32, c_uint32, POINTER(c_uint32)],
+        "texcache_udim_tiles": [c_void_p, c_uint32, POINTER(c_uint32), c_size_t, POINTER(c_size_t)],
         "texcache_get_info": [c_void_p, c_uint32, POINTER(Info), answer],
         "texcache_texture": [*fine, *[c_double] * 2, values, c_size_t, answer],
         "texcache_texture_footprint": [*fine, *[c_double] * 6, values, c_size_t, answer],
@@ -74,7 +77,7 @@ def _declared(library: ctypes.CDLL) -> ctypes.CDLL:
     others = {"texcache_error_string": ([c_int], c_char_p), "texcache_version": ([], c_char_p),
               "texcache_last_error": ([], c_char_p),
               "texcache_default_options": ([], Options), "texcache_file_count": ([c_void_p], c_uint32),
-              "texcache_file_name": ([c_void_p, c_uint32], c_char_p)}
+              "texcache_file_name": ([c_void_p, c_uint32], c_char_p), "texcache_is_udim": ([c_void_p, c_uint32], c_bool)}
     for name, (given, result) in others.items():
         call = getattr(library, name)
         call.argtypes, call.restype = given, result

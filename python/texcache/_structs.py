@@ -7,7 +7,7 @@ from __future__ import annotations
 
 import ctypes
 import operator
-from ctypes import POINTER, c_bool, c_double, c_float, c_int32, c_size_t, c_uint32, c_uint64, c_void_p
+from ctypes import POINTER, c_bool, c_char_p, c_double, c_float, c_int32, c_size_t, c_uint32, c_uint64, c_void_p
 from enum import IntEnum
 from functools import lru_cache
 from typing import Any, Sequence
@@ -101,7 +101,8 @@ class Struct(ctypes.Structure):
 class Options(Struct):
     """The options of a cache: texcache_options."""
     _fields_ = [("size", c_size_t), ("budget", c_uint64), ("shards", c_uint32), ("passes", c_uint32), ("handles", c_uint32),
-                ("autotile", c_uint32), ("slots", c_uint32), ("automip", c_bool)]
+                ("autotile", c_uint32), ("slots", c_uint32), ("automip", c_bool), ("outside_paths", c_bool),
+                ("refuse_links", c_bool), ("search_path", c_char_p), ("missing_ms", c_uint32)]
 
 
 class Answer(Struct):

@@ -14,37 +14,6 @@ static int texc_finish_at(texcache_pass *pass, uint32_t code, double place)
 
 /* ---- files */
 
-uint32_t texcache_file_count(const texcache *cache)
-{
-    return cache ? cache->count : 0;
-}
-
-const char *texcache_file_name(const texcache *cache, uint32_t file)
-{
-    return cache && file < cache->count ? cache->files[file].name : NULL;
-}
-
-int texcache_find(const texcache *cache, const char *name, uint32_t *file)
-{
-    const char *wrong = !cache ? "cache is NULL" : !name ? "name is NULL" : !file ? "file is NULL" : NULL;
-    if (wrong) return texc_refuse(texc_keep(TEXCACHE_BAD_ARGUMENT, wrong), NULL);
-    if (cache->forks != texc_forks) return texc_refuse(texc_keep(TEXCACHE_FORKED, NULL), NULL);
-    uint32_t low = 0, high = cache->count;
-    while (low < high) {
-        uint32_t middle = low + (high - low) / 2;
-        int order = strcmp(cache->files[middle].name, name);
-        if (!order) {
-            *file = middle;
-            return TEXCACHE_OK;
-        }
-        if (order < 0) low = middle + 1;
-        else high = middle;
-    }
-    texc_fact *fact = texc_keep(TEXCACHE_NO_NAME, NULL);
-    texc_keep_name(fact, name);
-    return texc_refuse(fact, NULL);
-}
-
 int texcache_get_info(texcache_pass *pass, uint32_t file, texcache_info *info, texcache_answer *answer)
 {
     texcache_supply_answer said;
@@ -148,46 +117,67 @@ static uint32_t texc_invalidate(texcache_pass *pass, uint32_t file, bool force, 
 {
     texc_tries tries = {0, 0};
     uint32_t code;
+    texc_look_anew(pass->cache, file, force);
     do {
         code = tex_c_invalidate(pass->held, &pass->held, file, force, said);
     } while (code && texc_goes_on(pass, code, said, &tries));
     return code;
 }
 
-int texcache_invalidate(texcache_pass *pass, uint32_t file, bool force, texcache_answer *answer)
+/* Files that were checked one after the other: the first failure, and how many there were. */
+typedef struct texc_checked {
+    uint32_t status;
+    texcache_supply_answer first;
+} texc_checked;
+
+static void texc_check(texcache_pass *pass, uint32_t file, bool force, texc_checked *all)
 {
     texcache_supply_answer said;
+    uint32_t code = texc_status(pass, file, texc_invalidate(pass, file, force, &said));
+    if (!code) return;
+    if (all->status) {
+        texc_count_error(pass, file, code);
+    } else {
+        texc_keep_answer(pass, file, code, &said);
+        all->status = code;
+        all->first = said;
+        all->first.part = file;
+        all->first.value = 0;
+    }
+    all->first.value++;
+}
+
+/* Ends a call that checked several files. */
+static int texc_end_checks(texcache_pass *pass, const texc_checked *all, texcache_answer *answer)
+{
+    texc_leave(pass);
+    if (answer) texc_fill_answer(&all->first, answer);
+    return (int)all->status;
+}
+
+int texcache_invalidate(texcache_pass *pass, uint32_t number, bool force, texcache_answer *answer)
+{
+    texcache_supply_answer said;
+    texc_checked all = {TEXCACHE_OK, {0}};
+    uint32_t file, code = TEXCACHE_OK;
     int refused = texc_begin(pass, NULL, answer);
     if (refused) return refused;
-    if (force) texc_close_file(pass->cache, file);
-    uint32_t code = texc_invalidate(pass, file, force, &said);
+    const bool is_set = texc_set_name(pass->cache, number) != NULL;
+    for (uint32_t tile = 0; is_set && texc_known_tile(pass->cache, number, tile, &file); tile++)
+        if (file != TEXC_NO_FILE) texc_check(pass, file, force, &all);
+    if (!is_set) code = texc_invalidate(pass, number, force, &said);
     if (force) __atomic_fetch_add(&pass->cache->forced, 1, __ATOMIC_RELAXED);
-    return texc_finish(pass, file, code, &said, answer);
+    return is_set ? texc_end_checks(pass, &all, answer) : texc_finish(pass, number, code, &said, answer);
 }
 
 int texcache_invalidate_all(texcache_pass *pass, texcache_answer *answer)
 {
-    texcache_supply_answer said, first;
-    uint32_t status = TEXCACHE_OK;
+    texc_checked all = {TEXCACHE_OK, {0}};
     int refused = texc_begin(pass, NULL, answer);
     if (refused) return refused;
-    memset(&first, 0, sizeof first);
-    for (uint32_t file = 0; file < pass->cache->count; file++) {
-        uint32_t code = texc_is_known(pass->cache, file) ? texc_invalidate(pass, file, false, &said) : TEXCACHE_OK;
-        if (code && !status) {
-            status = code;
-            texc_keep_answer(pass, file, code, &said);
-            first = said;
-            first.part = file;
-            first.value = 0;
-        } else if (code) {
-            texc_count_error(pass, file, code);
-        }
-        first.value += code != TEXCACHE_OK;
-    }
-    texc_leave(pass);
-    if (answer) texc_fill_answer(&first, answer);
-    return (int)status;
+    for (uint32_t file = 0, count = texc_count(pass->cache); file < count; file++)
+        if (texc_is_known(pass->cache, file)) texc_check(pass, file, false, &all);
+    return texc_end_checks(pass, &all, answer);
 }
 
 /* ---- counts */

@@ -58,9 +58,8 @@ static const texc_error texc_errors[] = {
     {TEXCACHE_SHORT, "supply too short", "fewer bytes were supplied than were needed"},
     {TEXCACHE_LONG, "supply too long", "more bytes were supplied than were needed"},
     {TEXCACHE_NO_FOLDER, "folder cannot be read", NULL},
-    {TEXCACHE_TOO_MANY_FILES, "too many files", "the folder has more than 4096 plain files"},
-    {TEXCACHE_NO_NAME, "no such name",
-     "the folder had no plain file of this name when the cache was opened; subfolders and links are not read"},
+    {TEXCACHE_TOO_MANY_FILES, "too many files", "the cache has 4096 files or 1024 UDIM sets, and can have no more"},
+    {TEXCACHE_NO_NAME, "no such name", NULL},
     {TEXCACHE_IN_USE, "pass in use", "another call runs in this pass: each thread needs a pass of its own"},
     {TEXCACHE_CLOSED, "the pass has ended", "the pass has ended"},
     {TEXCACHE_PASSES_LEFT, "a pass has not ended",
@@ -68,6 +67,7 @@ static const texc_error texc_errors[] = {
     {TEXCACHE_FORKED, "cache or pass of the parent process",
      "the cache was opened before a fork, and this is the child: it needs a cache of its own"},
     {TEXCACHE_BAD_ARGUMENT, "an argument is NULL or of another size", NULL},
+    {TEXCACHE_NO_TILE, "no such UDIM tile", NULL},
     {TEXCACHE_OTHER_THREAD, "pass of another thread", "only the thread whose pass it is may end it"},
 };
 
@@ -82,15 +82,34 @@ static const struct { const char *name, *range; } texc_numbers[] = {
 
 static __thread texc_fact texc_latest;
 /* What failed in the latest reading of the thread, and the system's error. */
-static __thread struct { const char *what; int error_number; } texc_noted;
+static __thread texc_why texc_failed;
 
 /* ---- keeping the facts */
 
 /* Notes what failed while a file was read; NULL if a reading begins. */
 void texc_notes(const char *what, int error_number)
 {
-    texc_noted.what = what;
-    texc_noted.error_number = error_number;
+    const texc_why why = {what, error_number, false};
+    texc_failed = why;
+}
+
+/* Notes what failed. */
+bool texc_fails(const char *what, int error_number)
+{
+    texc_notes(what, error_number);
+    return false;
+}
+
+/* Notes that nothing failed but that a file was replaced. */
+void texc_notes_replaced(void)
+{
+    texc_notes("the file was replaced while it was read", 0);
+    texc_failed.is_replaced = true;
+}
+
+texc_why texc_noted(void)
+{
+    return texc_failed;
 }
 
 /* Begins the facts of an error. Those that are not given are blank. */
@@ -147,14 +166,14 @@ bool texc_is_of_file(uint32_t code)
 
 void texc_count_error(texcache_pass *pass, uint32_t file, uint32_t code)
 {
-    if (file < pass->cache->count && texc_is_of_file(code)) texc_add(&pass->cache->files[file].errors, 1);
+    if (file < texc_count(pass->cache) && texc_is_of_file(code)) texc_add(&pass->cache->files[file].errors, 1);
 }
 
 /* Begins the facts of an error, with what failed in the latest reading of the thread. */
 texc_fact *texc_keep_reading(int status)
 {
-    texc_fact *fact = texc_keep(status, texc_noted.what);
-    fact->error_number = texc_noted.error_number;
+    texc_fact *fact = texc_keep(status, texc_failed.what);
+    fact->error_number = texc_failed.error_number;
     return fact;
 }
 
@@ -165,10 +184,18 @@ texc_fact *texc_keep_answer(texcache_pass *pass, uint32_t file, uint32_t code, c
     texc_fact *fact = code == TEXCACHE_READ_FAULT ? texc_keep_reading((int)code) : texc_keep((int)code, NULL);
     texc_fill_answer(said, &fact->answer);
     fact->number = file;
-    fact->given = cache->count;
-    if (file < cache->count) texc_keep_name(fact, cache->files[file].name);
+    fact->given = texc_count(cache);
+    const char *name = texcache_file_name(cache, file);
+    if (name) texc_keep_name(fact, name);
     texc_count_error(pass, file, code);
     return fact;
+}
+
+/* Keeps the index of the lookup that failed, and of how many. Returns the index. */
+uint64_t texc_keep_index(uint64_t index, uint64_t count)
+{
+    texc_latest.given = count;
+    return texc_latest.answer.value = index;
 }
 
 /* Keeps how many values a buffer has room for, after TEXCACHE_SMALL_BUFFER. */
@@ -282,6 +309,19 @@ static void texc_put_failure(texc_text *text, const texc_fact *fact)
     if (fact->error_number && !strerror_r(fact->error_number, words, sizeof words)) texc_put(text, ": %s", words);
 }
 
+/* Adds which tile is missing, for which lookup. */
+static void texc_put_tile(texc_text *text, const texc_fact *fact)
+{
+    const texcache_answer *a = &fact->answer;
+    if (fact->given > 1) texc_put(text, "lookup %" PRIu64 ": ", a->value);
+    if (!a->detail) {
+        texc_put(text, "there is no such tile: s may be from 0 to below 10, t from 0 on, and the number at most 9999");
+        return;
+    }
+    texc_put(text, "tile %" PRIu32 ": ", a->detail);
+    texc_put_failure(text, fact);
+}
+
 /* Adds the sentence of an error that is made of its facts. */
 static void texc_put_facts(texc_text *text, const texc_fact *fact)
 {
@@ -289,8 +329,10 @@ static void texc_put_facts(texc_text *text, const texc_fact *fact)
     switch (fact->status) {
     case TEXCACHE_BAD_OPTIONS:
     case TEXCACHE_BAD_REQUEST: texc_put_number(text, fact); break;
+    case TEXCACHE_NO_TILE: texc_put_tile(text, fact); break;
     case TEXCACHE_NO_FILE:
-        texc_put(text, "no file has the number %.0f: there are %" PRIu64, fact->number, fact->given);
+        if (fact->name[0]) texc_put(text, "this is a UDIM set: texcache_udim_file says the file of one of its tiles");
+        else texc_put(text, "no file has the number %.0f: there are %" PRIu64, fact->number, fact->given);
         break;
     case TEXCACHE_SMALL_BUFFER:
         texc_put(text, "the buffer has room for %" PRIu64 " %s, and %" PRIu64 " are needed", fact->given,
@@ -301,6 +343,7 @@ static void texc_put_facts(texc_text *text, const texc_fact *fact)
     case TEXCACHE_BAD_FILE: texc_put_fault(text, fact); break;
     case TEXCACHE_NO_LEVEL: texc_put(text, "the file has %" PRIu32 " levels, counted from 0", a->detail); break;
     case TEXCACHE_READ_FAULT:
+    case TEXCACHE_NO_NAME:
     case TEXCACHE_NO_FOLDER: texc_put_failure(text, fact); break;
     default: texc_put(text, "%s", fact->what ? fact->what : "unknown");
     }

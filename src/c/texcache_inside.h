@@ -7,6 +7,7 @@
 
 #include <pthread.h>
 #include <string.h>
+#include <sys/stat.h>
 
 /* Functions of one of these files that another one calls, and that the library does not export. */
 #define TEXC_HIDDEN __attribute__((visibility("hidden")))
@@ -21,11 +22,55 @@
 #define TEXC_PART 64
 /* The file of a call on no file. */
 #define TEXC_NO_FILE UINT32_MAX
+/* The most files of a cache, and the lists by which it finds their names. */
+#define TEXC_MOST_FILES 4096
+#define TEXC_NAMES 4096
+/* The numbers of UDIM sets begin here, and how many a cache has at most. */
+#define TEXC_FIRST_SET 0x80000000u
+#define TEXC_MOST_SETS 1024
+/* The most bytes of a path, with its final 0: the system takes no longer one. */
+#define TEXC_PATH 4096
+/* The units of a coordinate in an image. */
+#define TEXC_FINE 4294967296.0
 /* How much of a name is kept for the text of an error, and how long that is at most. */
 #define TEXC_NAME 512
 #define TEXC_ERROR 2048
 
 typedef struct texc_file texc_file;
+typedef struct texc_set texc_set;
+
+/* What failed, and the system's error if there was one. */
+typedef struct texc_why {
+    const char *what;
+    int error_number;
+    bool is_replaced;  /* nothing failed but that the file was replaced: it is worth another try */
+} texc_why;
+
+/* A folder of the cache: its own, or one of the search path. */
+typedef struct texc_folder {
+    struct texc_folder *next;
+    char path[];   /* from the root on, without a slash at its end */
+} texc_folder;
+
+/* A name that was looked for: a path that is relative to the cache's folder, or else begins with a slash. */
+typedef struct texc_name {
+    struct texc_name *next;  /* with the same hash */
+    uint32_t number;         /* of its file or set, or TEXC_NO_FILE; written with names_lock, read by all */
+    uint64_t until;          /* until when nobody looks for it again; names_lock guards this and why */
+    texc_why why;            /* it was not found */
+    char text[];
+} texc_name;
+
+/* What changes if a file is replaced or written to. Times are in nanoseconds. */
+typedef struct texc_stamp {
+    uint64_t device, inode, size, modified, changed;
+} texc_stamp;
+
+/* Where a file is. */
+typedef struct texc_place {
+    const char *name;  /* as in texc_name */
+    size_t root;       /* the bytes of it that name a folder of the search path, with the slash behind it; or 0 */
+} texc_place;
 
 /* An open file of one generation. The cache's open_lock guards all of it but fd. */
 typedef struct texc_open {
@@ -52,11 +97,13 @@ typedef struct texc_sampled {
 } texc_sampled;
 
 struct texc_file {
-    char *name;
+    texc_place place;
     uint64_t errors;       /* calls that failed because of this file */
-    pthread_mutex_t lock;  /* guards the next five */
+    pthread_mutex_t lock;  /* guards the next six */
     uint32_t generation;   /* the latest one, 0 before the first look */
-    uint64_t stamp, len;   /* the stamp and length of that generation */
+    texc_stamp stamp;      /* of that generation */
+    uint64_t missing_until;  /* until when nobody looks at it again, because it was not there */
+    texc_why why;            /* it was not there */
     texc_tally tally;
     texc_sampled sampled;
     texc_open *open;       /* open at that generation, or NULL; the cache's open_lock guards it */
@@ -65,8 +112,14 @@ struct texc_file {
 struct texcache {
     unsigned forks;   /* texc_forks when it was made */
     int folder;
-    texc_file *files;
-    uint32_t count;
+    texc_folder *folders;         /* the folder, and those of the search path */
+    texc_file *files;             /* room for TEXC_MOST_FILES */
+    uint32_t count;               /* those that have a number; written with names_lock, read by texc_count */
+    texc_set *sets[TEXC_MOST_SETS]; /* written with names_lock, read by all */
+    uint32_t set_count;           /* names_lock guards it */
+    uint32_t missing_names;       /* names in the table that had no file when they came into it */
+    texc_name *names[TEXC_NAMES]; /* by their hashes, the latest first; written with names_lock, read by all */
+    pthread_mutex_t names_lock;
     texcache_options options;
     uint64_t looks, opens, reads, bytes;
     uint64_t wait_time;  /* nanoseconds in which calls waited for a shard */
@@ -111,6 +164,16 @@ struct texcache_pass {
     texcache_pass *made_before;
 };
 
+/* Lookups in a set. */
+typedef struct texc_set_job {
+    texcache_pass *pass;
+    texc_set *set;
+    const texcache_texture_options *options;
+    const texcache_coordinates *at;
+    const texcache_results *results;
+    size_t count;
+} texc_set_job;
+
 /* How often a call has been repeated. */
 typedef struct texc_tries {
     unsigned again, busy;
@@ -138,6 +201,9 @@ extern unsigned texc_forks TEXC_HIDDEN;
 
 /* texcache_errors.c */
 TEXC_HIDDEN void texc_notes(const char *what, int error_number);
+TEXC_HIDDEN bool texc_fails(const char *what, int error_number);
+TEXC_HIDDEN void texc_notes_replaced(void);
+TEXC_HIDDEN texc_why texc_noted(void);
 TEXC_HIDDEN texc_fact *texc_keep(int status, const char *what);
 TEXC_HIDDEN texc_fact *texc_keep_reading(int status);
 TEXC_HIDDEN void texc_keep_name(texc_fact *fact, const char *name);
@@ -146,6 +212,7 @@ TEXC_HIDDEN int texc_refuse_number(uint32_t bad, double number, texcache_answer 
 TEXC_HIDDEN texc_fact *texc_keep_place(const char *name, const char *range, uint64_t index, uint64_t count);
 TEXC_HIDDEN texc_fact *texc_keep_answer(texcache_pass *pass, uint32_t file, uint32_t code,
                                         const texcache_supply_answer *said);
+TEXC_HIDDEN uint64_t texc_keep_index(uint64_t index, uint64_t count);
 TEXC_HIDDEN void texc_keep_room(uint64_t room);
 TEXC_HIDDEN void texc_keep_sizes(uint64_t room, uint64_t needed);
 TEXC_HIDDEN void texc_count_error(texcache_pass *pass, uint32_t file, uint32_t code);
@@ -167,17 +234,58 @@ TEXC_HIDDEN int texc_give_missing(const texcache_texture_options *o, const texca
 /* texcache_posix.c */
 TEXC_HIDDEN uint64_t texc_now(void);
 TEXC_HIDDEN void texc_add(uint64_t *count, uint64_t by);
-TEXC_HIDDEN int texc_list(texcache *cache, const char *folder);
+TEXC_HIDDEN uint64_t texc_later(const texcache *cache);
+TEXC_HIDDEN unsigned texc_most_idle(unsigned handles);
+TEXC_HIDDEN int texc_descriptor(texcache *cache, int at, const char *name, int flags);
 TEXC_HIDDEN void texc_end_files(texcache *cache);
 TEXC_HIDDEN void texc_supply(texcache_pass *pass, const texcache_supply_answer *need);
 TEXC_HIDDEN bool texc_is_known(texcache *cache, uint32_t file);
-TEXC_HIDDEN void texc_close_file(texcache *cache, uint32_t file);
+TEXC_HIDDEN void texc_look_anew(texcache *cache, uint32_t file, bool force);
+
+/* texcache_paths.c */
+TEXC_HIDDEN int texc_open_folders(texcache *cache, const char *folder);
+TEXC_HIDDEN void texc_end_paths(texcache *cache);
+TEXC_HIDDEN int texc_find_file(texcache *cache, const char *name, uint32_t *file);
+TEXC_HIDDEN int texc_look_at(texcache *cache, const texc_place *place, struct stat *seen);
+TEXC_HIDDEN int texc_open_at(texcache *cache, const texc_place *place);
+TEXC_HIDDEN bool texc_is_plain(const struct stat *seen);
+TEXC_HIDDEN void texc_each_name(texcache *cache, const char *folder, void takes(void *, const char *), void *given);
+TEXC_HIDDEN int texc_refuse_names(const texcache *cache, const char *wrong);
+
+/* texcache_udim.c */
+TEXC_HIDDEN bool texc_has_mark(const char *name);
+TEXC_HIDDEN int texc_make_set(texcache *cache, const char *name, texc_set **out);
+TEXC_HIDDEN texc_set *texc_set_of(const texcache *cache, uint32_t number);
+TEXC_HIDDEN const char *texc_set_name(const texcache *cache, uint32_t number);
+TEXC_HIDDEN bool texc_known_tile(const texcache *cache, uint32_t number, uint32_t tile, uint32_t *file);
+TEXC_HIDDEN int texc_look_up_set(const texc_set_job *job, size_t *done, texcache_answer *answer);
+TEXC_HIDDEN int texc_move_to_tile(texcache_pass *pass, uint32_t *file, texcache_lookup *r, texcache_answer *answer);
 
 /* texcache_passes.c */
 TEXC_HIDDEN int texc_enter_later(texcache_pass *pass);
 TEXC_HIDDEN bool texc_pauses(unsigned *tries, unsigned most);
 TEXC_HIDDEN bool texc_waits(unsigned *tries);
 TEXC_HIDDEN bool texc_goes_on(texcache_pass *pass, uint32_t code, const texcache_supply_answer *said, texc_tries *tries);
+
+/* Whether a number may be that of a UDIM set. */
+static inline bool texc_is_set(uint32_t file)
+{
+    return file - TEXC_FIRST_SET < TEXC_MOST_SETS;
+}
+
+/* How many files of a cache have a number. */
+static inline uint32_t texc_count(const texcache *cache)
+{
+    return __atomic_load_n(&cache->count, __ATOMIC_ACQUIRE);
+}
+
+/* The error of a call on a file, as a program sees it. What the library cannot know is here a file that could not be
+ * read: that no file has this number yet, or that it was replaced each time. */
+static inline uint32_t texc_status(const texcache_pass *pass, uint32_t file, uint32_t code)
+{
+    if (code != TEXCACHE_READ_FAULT) return code;
+    return file >= texc_count(pass->cache) ? TEXCACHE_NO_FILE : texc_noted().is_replaced ? TEXCACHE_AGAIN : TEXCACHE_READ_FAULT;
+}
 
 /* Begins a call in a pass, in which only one call at a time may run. */
 static inline int texc_enter(texcache_pass *pass)
@@ -219,7 +327,10 @@ TEXC_INLINE int texc_begin(texcache_pass *pass, const char *wrong, texcache_answ
 TEXC_INLINE int texc_finish(texcache_pass *pass, uint32_t file, uint32_t code, const texcache_supply_answer *said,
                             texcache_answer *answer)
 {
-    if (__builtin_expect(code != 0, 0)) texc_keep_answer(pass, file, code, said);
+    if (__builtin_expect(code != 0, 0)) {
+        code = texc_status(pass, file, code);
+        texc_keep_answer(pass, file, code, said);
+    }
     texc_leave(pass);
     if (answer) texc_fill_answer(said, answer);
     return (int)code;
@@ -297,7 +408,7 @@ TEXC_INLINE void texc_count_lookups(texcache_pass *pass, size_t count)
 /* Whether the missing colour stands in place of an error. */
 TEXC_INLINE bool texc_gives_missing(const texcache_texture_options *o, uint32_t code)
 {
-    return o->missing_color && (code == TEXCACHE_NO_FILE || texc_is_of_file(code));
+    return o->missing_color && (code == TEXCACHE_NO_FILE || code == TEXCACHE_NO_TILE || texc_is_of_file(code));
 }
 
 #endif

@@ -157,7 +157,7 @@ TEXC_INLINE int texc_look_up(texcache_pass *pass, uint32_t file, const texcache_
     const bool is_footprint = at->dsdx != NULL;
     texcache_batch_answer said;
     texcache_batch batch;
-    if (__builtin_expect(!pass || !options || !results->values || options->size != sizeof *options
+    if (__builtin_expect(!pass || !options || !results->values || texc_is_set(file) || options->size != sizeof *options
                          || !texc_is_usual(options, is_footprint) || !texc_set_batch(options, file, is_footprint, &batch)
                          || results->room / batch.channels < count || texc_places(at, 0, count, places) < count, 0)) {
         const texcache_results to = *results;
@@ -171,6 +171,7 @@ TEXC_INLINE int texc_look_up(texcache_pass *pass, uint32_t file, const texcache_
     uint32_t code = texc_parts(pass, &batch, at, count, places, raw, done, &said);
     if (__builtin_expect(code && texc_gives_missing(options, code), 0)) {
         const texcache_results to = *results;
+        code = texc_status(pass, file, code);
         texc_count_error(pass, file, code);
         texc_leave(pass);
         if (done) *done = count;
@@ -263,7 +264,14 @@ TEXC_INLINE int texc_look_up_fixed(texc_lookup *look_up, texcache_pass *pass, ui
 {
     texcache_supply_answer said;
     texc_tries tries = {0, 0};
+    texcache_lookup moved;
     uint32_t code;
+    if (__builtin_expect(texc_is_set(file), 0) && pass && r && out && texc_set_of(pass->cache, file)) {
+        moved = *r;
+        int status = texc_move_to_tile(pass, &file, &moved, answer);
+        if (status) return status;
+        r = &moved;
+    }
     int refused = texc_begin(pass, !r ? "lookup is NULL" : !out ? "out is NULL" : NULL, answer);
     if (refused) return refused;
     texc_count_lookups(pass, 1);

@@ -44,7 +44,8 @@ bool texc_goes_on(texcache_pass *pass, uint32_t code, const texcache_supply_answ
         texc_supply(pass, said);
         return true;
     }
-    if (code == TEXCACHE_AGAIN) return ++tries->again < TEXC_AGAIN;
+    if (code == TEXCACHE_AGAIN || (code == TEXCACHE_READ_FAULT && texc_noted().is_replaced))
+        return ++tries->again < TEXC_AGAIN;
     if (code != TEXCACHE_BUSY) return false;
     uint64_t from = texc_now();
     bool goes_on = texc_waits(&tries->busy);
@@ -251,7 +252,7 @@ int texcache_this_thread(texcache *cache, texcache_pass **pass)
 
 texcache_options texcache_default_options(void)
 {
-    texcache_options o = {sizeof o, UINT64_C(268435456), 16, 16, 100, 64, 1024, true};
+    texcache_options o = {sizeof o, UINT64_C(268435456), 16, 16, 100, 64, 1024, true, false, false, NULL, 1000};
     return o;
 }
 
@@ -267,6 +268,8 @@ static void texc_free(texcache *cache)
     }
     texc_end_held(&cache->first);
     texc_end_files(cache);
+    texc_end_paths(cache);
+    pthread_mutex_destroy(&cache->names_lock);
     pthread_mutex_destroy(&cache->open_lock);
     pthread_mutex_destroy(&cache->lock);
     free(cache);
@@ -286,19 +289,18 @@ static void texc_keep_option(const texcache_options *o, uint32_t bad)
     fact->answer.detail = bad;
 }
 
-/* Lists the folder, and has the library make its cache. */
+/* Opens the folder, and has the library make its cache. */
 static int texc_fill(texcache *cache, const char *folder, uint32_t *bad)
 {
     const texcache_options *o = &cache->options;
     texcache_supply_options given = {o->budget, o->shards, o->passes, o->handles, o->autotile, o->slots, o->automip};
     texcache_supply_answer answer;
-    cache->most_idle = o->handles;
-    int refused = texc_list(cache, folder);
+    int refused = texc_open_folders(cache, folder);
     if (refused) {
         texc_keep_name(texc_keep_reading(refused), folder);
         return refused;
     }
-    refused = (int)tex_c_new(&cache->first, &given, cache->count, &answer);
+    refused = (int)tex_c_new(&cache->first, &given, TEXC_MOST_FILES, &answer);
     if (refused == TEXCACHE_BAD_OPTIONS) texc_keep_option(o, answer.detail);
     else if (refused) texc_keep(refused, NULL);
     if (bad) *bad = answer.detail;
@@ -325,12 +327,14 @@ int texcache_open_saying(texcache **cache, const char *folder, const texcache_op
     pthread_once(&texc_once, texc_watch_forks);
     texcache *made = texc_is_watching ? calloc(1, sizeof *made) : NULL;
     if (!made) return texc_ends(TEXCACHE_NO_MEMORY, NULL);
+    pthread_mutex_init(&made->names_lock, NULL);
     pthread_mutex_init(&made->open_lock, NULL);
     pthread_mutex_init(&made->lock, NULL);
     made->forks = texc_forks;
     made->folder = -1;
     made->spent_end = &made->spent;
     made->options = *options;
+    made->most_idle = texc_most_idle(options->handles);
     int refused = texc_fill(made, folder, bad);
     if (refused) texc_free(made);
     else *cache = made;

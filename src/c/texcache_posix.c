@@ -1,9 +1,8 @@
-/* texcache_posix.c: reads the files of a folder for the proved library: it looks at a file, opens it, reads what the
+/* texcache_posix.c: reads files for the proved library: it looks at a file, opens it, reads what the
  * library says it needs, and supplies that. */
 #define _POSIX_C_SOURCE 200809L
 #include "texcache_inside.h"
 
-#include <dirent.h>
 #include <errno.h>
 #include <fcntl.h>
 #include <stdlib.h>
@@ -12,11 +11,8 @@
 #include <time.h>
 #include <unistd.h>
 
-/* The most files of a folder. */
-#define TEXC_MOST_FILES 4096
-/* A generation is a version of a file, 1 to this. Its stamp is (length + 1000003 * time) mod 2^44. */
+/* A generation is a version of a file, 1 to this. */
 #define TEXC_LAST_GENERATION 1048575u
-#define TEXC_STAMP_MASK ((UINT64_C(1) << 44) - 1)
 /* The least number of bytes that is read at once, if the file has them. */
 #define TEXC_BLOCK 16384
 /* How often a file is opened anew because it was closed before it was read. */
@@ -42,6 +38,12 @@ uint64_t texc_now(void)
     return (uint64_t)now.tv_sec * 1000000000u + (uint64_t)now.tv_nsec;
 }
 
+/* When a file or name that was not found now is looked for again, in nanoseconds since that moment. */
+uint64_t texc_later(const texcache *cache)
+{
+    return texc_now() + (uint64_t)cache->options.missing_ms * 1000000u;
+}
+
 /* Locks a file, and counts how long another thread had it. */
 static void texc_lock(texc_file *file)
 {
@@ -65,10 +67,10 @@ static uint64_t texc_mark(texc_file *file, uint64_t at, uint64_t size)
     uint64_t again = 0;
     if (!sampled->bits) {
         sampled->block = TEXC_SAMPLED;
-        while (file->len / sampled->block >= TEXC_BITS) sampled->block *= 2;
-        sampled->bits = calloc((size_t)(file->len / sampled->block / 8 + 1), 1);
+        while (file->stamp.size / sampled->block >= TEXC_BITS) sampled->block *= 2;
+        sampled->bits = calloc((size_t)(file->stamp.size / sampled->block / 8 + 1), 1);
     }
-    if (!sampled->bits || !size || at + size > file->len) return 0;
+    if (!sampled->bits || !size || at + size > file->stamp.size) return 0;
     for (uint64_t number = at / sampled->block; number <= (at + size - 1) / sampled->block; number++) {
         uint64_t place = texc_sample(sampled, number);
         uint8_t bit = (uint8_t)(1 << number % 8);
@@ -166,7 +168,7 @@ static bool texc_give_back(texcache *cache, texc_open *open)
 }
 
 /* How many idle files may stay open: as the options say, but half of what the process may have is for others. */
-static unsigned texc_most_idle(unsigned handles)
+unsigned texc_most_idle(unsigned handles)
 {
     struct rlimit limit;
     if (getrlimit(RLIMIT_NOFILE, &limit) || limit.rlim_cur / 2 >= handles) return handles;
@@ -175,49 +177,68 @@ static unsigned texc_most_idle(unsigned handles)
 
 /* ---- files */
 
-static uint64_t texc_stamp(const struct stat *seen)
+static uint64_t texc_nanoseconds(const struct timespec *time)
 {
-    uint64_t nanos = seen->st_mtim.tv_sec < 0
-        ? 0 : (uint64_t)seen->st_mtim.tv_sec * 1000000000u + (uint64_t)seen->st_mtim.tv_nsec;
-    return ((uint64_t)seen->st_size + UINT64_C(1000003) * nanos) & TEXC_STAMP_MASK;
+    return (uint64_t)time->tv_sec * 1000000000u + (uint64_t)time->tv_nsec;
 }
 
-/* Notes what failed. */
-static bool texc_fails(const char *what, int error_number)
+static texc_stamp texc_stamp_of(const struct stat *seen)
 {
-    texc_notes(what, error_number);
+    texc_stamp stamp = {seen->st_dev, seen->st_ino, (uint64_t)seen->st_size, texc_nanoseconds(&seen->st_mtim),
+                        texc_nanoseconds(&seen->st_ctim)};
+    return stamp;
+}
+
+static bool texc_is_same(const texc_stamp *one, const texc_stamp *other)
+{
+    return one->device == other->device && one->inode == other->inode && one->size == other->size
+           && one->modified == other->modified && one->changed == other->changed;
+}
+
+/* Keeps for a while that a file cannot be read, and why; its lock is held. */
+static bool texc_miss(const texcache *cache, texc_file *file)
+{
+    file->missing_until = texc_later(cache);
+    file->why = texc_noted();
     return false;
+}
+
+/* Looks at a file; its lock is held. Returns whether it is a plain file. */
+static bool texc_look(texcache *cache, texc_file *file, struct stat *seen)
+{
+    uint64_t from = texc_now();
+    if (from < file->missing_until) return texc_fails(file->why.what, file->why.error_number);
+    texc_add(&cache->looks, 1);
+    file->tally.looks++;
+    int failed = texc_look_at(cache, &file->place, seen);
+    int error_number = errno;
+    file->tally.input_time += texc_now() - from;
+    if (failed) texc_notes("the file cannot be looked at", error_number);
+    return (!failed && texc_is_plain(seen)) || texc_miss(cache, file);
 }
 
 /* Looks at a file and settles its generation; its lock is held. Returns whether it is a plain file. */
 static bool texc_settle(texcache *cache, texc_file *file)
 {
     struct stat seen;
-    uint64_t from = texc_now();
-    texc_add(&cache->looks, 1);
-    file->tally.looks++;
-    int failed = fstatat(cache->folder, file->name, &seen, AT_SYMLINK_NOFOLLOW);
-    int error_number = errno;
-    file->tally.input_time += texc_now() - from;
-    if (failed) return texc_fails("the file cannot be looked at", error_number);
-    if (!S_ISREG(seen.st_mode)) return texc_fails("it is not a plain file any more", 0);
-    uint64_t stamp = texc_stamp(&seen);
-    if (file->generation && file->stamp == stamp) return true;
+    if (!texc_look(cache, file, &seen)) return false;
+    const texc_stamp stamp = texc_stamp_of(&seen);
+    if (file->generation && texc_is_same(&file->stamp, &stamp)) return true;
     if (file->generation == TEXC_LAST_GENERATION) return texc_fails("it was replaced 1048575 times", 0);
     texc_forget(cache, file);
     texc_unmark(file);
     file->generation++;
     file->stamp = stamp;
-    file->len = (uint64_t)seen.st_size;
     return true;
 }
 
-/* A descriptor of a file. If the process has no more, idle files are closed, or other threads get time to finish. */
-static int texc_descriptor(texcache *cache, const char *name)
+/* A descriptor of a file or folder. If the process has no more, idle files are closed, or other threads get time to
+ * finish. */
+int texc_descriptor(texcache *cache, int at, const char *name, int flags)
 {
     unsigned tries = 0;
     for (;;) {
-        int fd = openat(cache->folder, name, O_RDONLY | O_CLOEXEC | O_NOFOLLOW | O_NONBLOCK | O_NOCTTY);
+        int fd = openat(at, name, flags);
         if (fd >= 0) return fd;
         if (errno == EINTR) continue;
         if (errno != EMFILE && errno != ENFILE) return -1;
@@ -225,20 +246,33 @@ static int texc_descriptor(texcache *cache, const char *name)
     }
 }
 
+/* Whether a descriptor is that of a file's latest generation; the file's lock is held. */
+static bool texc_is_latest(const texc_file *file, int fd)
+{
+    struct stat seen;
+    if (fstat(fd, &seen)) return texc_fails("the file cannot be looked at", errno);
+    const texc_stamp stamp = texc_stamp_of(&seen);
+    if (texc_is_same(&file->stamp, &stamp)) return true;
+    texc_notes_replaced();
+    return false;
+}
+
 /* Opens a file at its latest generation, or returns NULL; its lock is held. */
 static texc_open *texc_open_file(texcache *cache, texc_file *file)
 {
-    struct stat seen;
     uint64_t from = texc_now();
-    int fd = texc_descriptor(cache, file->name);
-    if (fd < 0) texc_notes("the file cannot be opened", errno);
+    int fd = texc_open_at(cache, &file->place);
+    if (fd < 0) {
+        texc_notes("the file cannot be opened", errno);
+        if (errno != EMFILE && errno != ENFILE) texc_miss(cache, file);
+    }
     file->tally.input_time += texc_now() - from;
     if (fd < 0) return NULL;
     texc_add(&cache->opens, 1);
     file->tally.opens++;
     texc_open *open = calloc(1, sizeof *open);
-    if (!open || fstat(fd, &seen) || !S_ISREG(seen.st_mode) || texc_stamp(&seen) != file->stamp) {
-        texc_notes(open ? "the file was replaced while it was opened" : "there is no memory to open it", 0);
+    if (!open) texc_notes("there is no memory to open it", 0);
+    if (!open || !texc_is_latest(file, fd)) {
         close(fd);
         free(open);
         return NULL;
@@ -262,10 +296,16 @@ static texc_open *texc_take(texcache *cache, texc_file *file)
     return open ? open : texc_open_file(cache, file);
 }
 
-/* Closes a file, so that the next reading opens what has its name then. */
-void texc_close_file(texcache *cache, uint32_t file)
+/* Lets the next call look at a file, even if it was not there a short while ago. With force it is closed too, so that the
+ * next reading opens what has its name then. */
+void texc_look_anew(texcache *cache, uint32_t number, bool force)
 {
-    if (file < cache->count) texc_forget(cache, &cache->files[file]);
+    if (number >= texc_count(cache)) return;
+    texc_file *file = &cache->files[number];
+    texc_lock(file);
+    file->missing_until = 0;
+    pthread_mutex_unlock(&file->lock);
+    if (force) texc_forget(cache, file);
 }
 
 /* Whether a file has been looked at. */
@@ -371,6 +411,7 @@ static bool texc_read_version(texcache *cache, texc_file *file, const texc_wante
         *is_there = texc_settle(cache, file);
         if (!open) return false;
     } while (!is_own && ++tries < TEXC_OPENS);
+    if (!is_own) texc_notes_replaced();
     return *is_there && is_read && is_own && file->generation == w->rows.generation;
 }
 
@@ -390,7 +431,7 @@ static uint32_t texc_supply_bytes(texcache_pass *pass, const texcache_supply_ans
     texc_lock(file);
     bool is_read = texc_read_version(cache, file, &w, bytes, &is_there);
     uint32_t generation = file->generation;
-    uint64_t len = file->len;
+    uint64_t len = file->stamp.size;
     pthread_mutex_unlock(&file->lock);
     if (is_read && need->need == 2)
         return tex_c_supply_bytes(pass->held, &pass->held, w.rows.file, generation, w.rows.at, room);
@@ -408,7 +449,7 @@ static uint32_t texc_supply_look(texcache_pass *pass, uint32_t number)
     texc_lock(file);
     bool is_there = texc_settle(pass->cache, file);
     uint32_t generation = file->generation;
-    uint64_t len = file->len;
+    uint64_t len = file->stamp.size;
     pthread_mutex_unlock(&file->lock);
     if (!is_there) return TEXCACHE_READ_FAULT;
     return tex_c_supply_look(pass->held, &pass->held, number, generation, len);
@@ -418,68 +459,8 @@ static uint32_t texc_supply_look(texcache_pass *pass, uint32_t number)
 void texc_supply(texcache_pass *pass, const texcache_supply_answer *need)
 {
     texc_notes(NULL, 0);
-    uint32_t code = need->need == 1 ? texc_supply_look(pass, need->need_file) : texc_supply_bytes(pass, need);
+    uint32_t code = need->need_file >= texc_count(pass->cache) ? TEXCACHE_READ_FAULT : need->need == 1 ? texc_supply_look(pass, need->need_file) : texc_supply_bytes(pass, need);
     if (code) tex_c_supply_fault(pass->held, &pass->held);
-}
-
-/* ---- the folder */
-
-static int texc_by_name(const void *a, const void *b)
-{
-    return strcmp(((const texc_file *)a)->name, ((const texc_file *)b)->name);
-}
-
-/* Adds a file to the list, which has room for `room`. */
-static int texc_add_file(texcache *cache, const char *name, size_t *room)
-{
-    if (cache->count == TEXC_MOST_FILES) return TEXCACHE_TOO_MANY_FILES;
-    if (cache->count == *room) {
-        size_t more = *room ? 2 * *room : 64;
-        texc_file *files = realloc(cache->files, more * sizeof *files);
-        if (!files) return TEXCACHE_NO_MEMORY;
-        cache->files = files;
-        *room = more;
-    }
-    texc_file *file = &cache->files[cache->count];
-    memset(file, 0, sizeof *file);
-    if (!(file->name = strdup(name))) return TEXCACHE_NO_MEMORY;
-    cache->count++;
-    return TEXCACHE_OK;
-}
-
-/* Adds the plain files of an open folder. */
-static int texc_add_files(texcache *cache, DIR *dir)
-{
-    size_t room = 0;
-    for (;;) {
-        struct stat seen;
-        errno = 0;
-        struct dirent *entry = readdir(dir);
-        if (!entry && errno) texc_notes("the folder cannot be read", errno);
-        if (!entry) return errno ? TEXCACHE_NO_FOLDER : TEXCACHE_OK;
-        if (fstatat(cache->folder, entry->d_name, &seen, AT_SYMLINK_NOFOLLOW) || !S_ISREG(seen.st_mode)) continue;
-        int refused = texc_add_file(cache, entry->d_name, &room);
-        if (refused) return refused;
-    }
-}
-
-/* Opens the folder and lists its plain files, in the order of their names. */
-int texc_list(texcache *cache, const char *folder)
-{
-    cache->most_idle = texc_most_idle(cache->most_idle);
-    cache->folder = open(folder, O_RDONLY | O_DIRECTORY | O_CLOEXEC);
-    int copy = cache->folder < 0 ? -1 : openat(cache->folder, ".", O_RDONLY | O_DIRECTORY | O_CLOEXEC);
-    DIR *dir = copy < 0 ? NULL : fdopendir(copy);
-    if (!dir) {
-        texc_notes("the folder cannot be opened", errno);
-        if (copy >= 0) close(copy);
-        return TEXCACHE_NO_FOLDER;
-    }
-    int refused = texc_add_files(cache, dir);
-    closedir(dir);
-    if (cache->count) qsort(cache->files, cache->count, sizeof *cache->files, texc_by_name);
-    for (uint32_t n = 0; n < cache->count; n++) pthread_mutex_init(&cache->files[n].lock, NULL);
-    return refused;
 }
 
 /* Closes all files, and frees what is known of them. */
@@ -488,9 +469,7 @@ void texc_end_files(texcache *cache)
     while (texc_close_oldest(cache)) {}
     for (uint32_t n = 0; n < cache->count; n++) {
         pthread_mutex_destroy(&cache->files[n].lock);
-        free(cache->files[n].name);
         texc_unmark(&cache->files[n]);
     }
     free(cache->files);
-    if (cache->folder >= 0) close(cache->folder);
 }

@@ -7,8 +7,6 @@
 
 /* The places of a lookup with derivatives of its values: its own, and one on each side across and down. */
 #define TEXC_SIDES 5
-/* The units of a coordinate in an image. */
-#define TEXC_FINE 4294967296.0
 /* A channel that the file lacks. */
 #define TEXC_MISSING 8
 
@@ -357,6 +355,8 @@ int texcache_texture_results(texcache_pass *pass, uint32_t file, const texcache_
     texc_job job = {options, at, results, count, {0}, 1, results->dresultds != NULL, {0}, {0}};
     if (options->lod_bias != 0) job.scale = exp2(options->lod_bias);
     int refused = texc_refuse_numbers(&job, places, answer);
+    const texc_set_job in_set = {pass, texc_set_of(pass->cache, file), options, at, results, count};
+    if (!refused && in_set.set) return texc_look_up_set(&in_set, done, answer);
     if (!refused) refused = texc_begin(pass, NULL, answer);
     if (refused) return refused;
     texc_set_batch(options, file, at->dsdx != NULL, &job.batch);
@@ -367,6 +367,7 @@ int texcache_texture_results(texcache_pass *pass, uint32_t file, const texcache_
     bool is_missing = code && texc_gives_missing(options, code);
     if (done) *done = is_missing ? count : made;
     if (!is_missing) return texc_finish(pass, file, code, &said, answer);
+    code = texc_status(pass, file, code);
     texc_count_error(pass, file, code);
     texc_leave(pass);
     return texc_give_missing(options, results, count, code, answer);

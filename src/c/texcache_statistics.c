@@ -3,7 +3,6 @@
 #define _POSIX_C_SOURCE 200809L
 #include "texcache_inside.h"
 
-#include <fcntl.h>
 #include <inttypes.h>
 #include <stdlib.h>
 #include <sys/resource.h>
@@ -29,7 +28,7 @@ typedef struct texc_line {
 
 /* All that is reported. */
 typedef struct texc_report {
-    const texcache *cache;
+    texcache *cache;
     texc_line *lines;
     uint32_t used;
     uint64_t passes, busy, lookups, tiles, loose, errors;
@@ -74,9 +73,9 @@ static enum texc_form texc_form_in(int fd)
     return form;
 }
 
-static enum texc_form texc_form_of(const texcache *cache, uint32_t file)
+static enum texc_form texc_form_of(texcache *cache, uint32_t file)
 {
-    int fd = openat(cache->folder, cache->files[file].name, O_RDONLY | O_CLOEXEC | O_NOFOLLOW | O_NONBLOCK | O_NOCTTY);
+    int fd = texc_open_at(cache, &cache->files[file].place);
     if (fd < 0) return TEXC_UNKNOWN;
     enum texc_form form = texc_form_in(fd);
     close(fd);
@@ -172,12 +171,13 @@ static int texc_by_bytes(const void *a, const void *b)
 static int texc_collect(texcache *cache, uint32_t level, texc_report *report)
 {
     report->cache = cache;
-    report->lines = malloc(((size_t)cache->count + 1) * sizeof *report->lines);
+    const uint32_t count = texc_count(cache);
+    report->lines = malloc(((size_t)count + 1) * sizeof *report->lines);
     if (!report->lines) return TEXCACHE_NO_MEMORY;
     pthread_mutex_lock(&cache->lock);
     texc_count_passes(cache, report);
     texc_count_shards(cache, report);
-    for (uint32_t number = 0; number < cache->count; number++) {
+    for (uint32_t number = 0; number < count; number++) {
         texc_line *line = &report->lines[report->used];
         if (!texc_count_file(cache, number, line)) continue;
         texc_add_tally(&report->tally, &line->tally);
@@ -218,7 +218,7 @@ static void texc_list_numbers(const texc_report *r, texc_number to[TEXC_NUMBERS]
         {"bytes of those that are not pinned", "tile_bytes", r->loose, false},
         {"bytes that these may take (budget)", "budget", r->cache->options.budget, false},
         {"peak memory of the process, bytes", "peak_process_bytes", texc_peak(), false},
-        {"files", "file_count", r->cache->count, false},
+        {"files", "file_count", texc_count(r->cache), false},
         {"of these used", "used_files", r->used, false},
         {"freshness checks", "looks", t->looks, false},
         {"opens", "opens", t->opens, false},
@@ -291,7 +291,7 @@ static void texc_put_text(texc_text *text, const texc_report *report, uint32_t l
     texc_put(text, "%7s %9s %13s %13s %8s %7s %13s %7s %-6s  file\n", "opens", "reads", "bytes", "read before", "versions",
              "errors", "size", "levels", "form");
     for (uint32_t i = 0; i < report->used; i++)
-        texc_put_text_line(text, &report->lines[i], report->cache->files[report->lines[i].file].name);
+        texc_put_text_line(text, &report->lines[i], report->cache->files[report->lines[i].file].place.name);
 }
 
 /* ---- JSON */
@@ -372,7 +372,7 @@ static void texc_put_json(texc_text *text, const texc_report *report, uint32_t l
     if (level >= 2) texc_put(text, ", \"files\": [");
     for (uint32_t i = 0; level >= 2 && i < report->used; i++) {
         if (i) texc_put(text, ", ");
-        texc_put_json_line(text, &report->lines[i], report->cache->files[report->lines[i].file].name);
+        texc_put_json_line(text, &report->lines[i], report->cache->files[report->lines[i].file].place.name);
     }
     texc_put(text, "%s}\n", level >= 2 ? "]" : "");
 }

@@ -47,6 +47,16 @@ TextureOpt plain(TextureOpt::InterpMode by = TextureOpt::InterpClosest)
     return o;
 }
 
+void copy(const std::string &from, const std::string &to)
+{
+    {
+        std::ifstream in(from, std::ios::binary);
+        std::ofstream out(to + ".new", std::ios::binary);
+        out << in.rdbuf();
+    }
+    std::rename((to + ".new").c_str(), to.c_str());
+}
+
 ustring ramp() { return ustring(folder + "/ramp.tif"); }
 
 void of_values(TextureSystem *system)
@@ -201,9 +211,30 @@ void of_files(TextureSystem *system)
     std::vector<ustring> names(3);
     int across = 1, down = 1;
     check(system->is_udim(ustring("wood.<UDIM>.tif")) && !system->is_udim(ramp()), "is_udim");
-    check(!system->resolve_udim(ustring("wood.<UDIM>.tif"), 1.5f, 0.5f) && said(system, "UDIM"), "resolve_udim");
+    check(!system->resolve_udim(ustring("wood.<UDIM>.tif"), 1.5f, 0.5f) && said(system, "wood.1002.tif: "), "resolve_udim");
     system->inventory_udim(ustring("wood.<UDIM>.tif"), names, across, down);
     check(names.empty() && !across && !down && said(system, "UDIM"), "inventory_udim");
+    // two tiles, in a folder of the search path
+    copy(folder + "/ramp.tif", other + "/plank.1001.tif"), copy(folder + "/ramp.tif", other + "/plank.1012.tif");
+    const ustring pattern("plank.<UDIM>.tif");
+    float batch[OIIO::Tex::BatchWidth], s[OIIO::Tex::BatchWidth], t[OIIO::Tex::BatchWidth], none[OIIO::Tex::BatchWidth] = {0};
+    system->invalidate_all(true);
+    check(system->texture(pattern, o, 5.5f / 128, 10.5f / 64, 0, 0, 0, 0, 1, value) && is_near(value[0], at(5, 10)), "the first tile");
+    check(system->texture(pattern, o, 1 + 5.5f / 128, 1 + 10.5f / 64, 0, 0, 0, 0, 1, value) && is_near(value[0], at(5, 10)), "another tile");
+    check(!system->texture(pattern, o, 1.5f, 0.5f, 0, 0, 0, 0, 1, value) && said(system, "UDIM"), "a missing tile");
+    check(system->resolve_udim(pattern, 1.5f, 1.5f) == system->get_texture_handle(ustring("plank.1012.tif"))
+              && !system->resolve_udim(pattern, -1, 0), "resolve_udim finds tiles");
+    system->geterror();
+    system->inventory_udim(pattern, names, across, down);
+    check(across == 2 && down == 2 && names.size() == 4 && names[0] == ustring("plank.1001.tif") && names[1].empty()
+              && names[3] == ustring("plank.1012.tif"), "inventory_udim lists tiles");
+    OIIO::TextureOptBatch many;
+    many.swrap = many.twrap = OIIO::Tex::Wrap::Clamp;
+    many.interpmode = OIIO::Tex::InterpMode::Closest;
+    for (int i = 0; i < OIIO::Tex::BatchWidth; i++) s[i] = float(i % 2) + (float(i) + 0.5f) / 128, t[i] = float(i % 2) + 10.5f / 64;
+    bool is_right = system->texture(pattern, many, ~OIIO::Tex::RunMask(0), s, t, none, none, none, none, 1, batch);
+    for (int i = 0; i < OIIO::Tex::BatchWidth; i++) is_right = is_right && is_near(batch[i], at(i, 10));
+    check(is_right, "a batch over two tiles");
 }
 
 void of_facts(TextureSystem *system)
@@ -349,16 +380,6 @@ void of_threads(TextureSystem *system)
     }
     check(!wrong, std::to_string(wrong) + " lookups of threads are wrong");
     check(!system->has_error(), "errors are a thread's own");
-}
-
-void copy(const std::string &from, const std::string &to)
-{
-    {
-        std::ifstream in(from, std::ios::binary);
-        std::ofstream out(to + ".new", std::ios::binary);
-        out << in.rdbuf();
-    }
-    std::rename((to + ".new").c_str(), to.c_str());
 }
 
 // A file that is replaced by one with other channels, removed, and back again.

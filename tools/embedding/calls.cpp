@@ -73,9 +73,22 @@ static void opening(const char *folder)
     is(none.statistics_text(2, code).empty() && code, "it has no statistics");
     Cache good(folder, code);
     is(!code && bool(good), "the code is cleared by success");
-    throws(TEXCACHE_NO_NAME, "moon.tif: the folder had no plain file", [&] { good.find("moon.tif"); });
+    throws(TEXCACHE_NO_NAME, "moon.tif: no plain file is found under this name", [&] { good.find("moon.tif"); });
     is(good.find("moon.tif", code) == UINT32_MAX && code.value() == TEXCACHE_NO_NAME, "a name that is not there");
     is(good.file_name(good.find("bricks.tif")) == "bricks.tif" && good.file_name(9999).empty(), "names of files");
+    is(good.find("./nowhere/../bricks.tif") == good.find("bricks.tif") && good.file_count() == 1, "names of one file");
+    throws(TEXCACHE_BAD_ARGUMENT, "zero byte", [&] { good.find(std::string("bricks.tif\0", 11)); });
+    throws(TEXCACHE_BAD_ARGUMENT, "zero byte", [&] { Cache cache(std::string(folder) + '\0'); });
+    throws(TEXCACHE_NO_NAME, "the name is empty", [&] { good.find(""); });
+    is(good.find_all() > 3 && good.find_all(".", code) + 0u == good.file_count() && !code, "all files of the folder");
+    throws(TEXCACHE_NO_FOLDER, "nowhere: ", [&] { good.find_all("nowhere"); });
+    throws(TEXCACHE_NO_NAME, "no tile of this name is found", [&] { good.find("moon.<UDIM>.tif"); });
+    throws(TEXCACHE_BAD_ARGUMENT, "not that of a UDIM set", [&] { good.udim_tiles(0); });
+    is(!good.is_udim(0) && good.udim_file(0, 1001, code) == UINT32_MAX && code, "a file is no UDIM set");
+    texcache_options search = texcache_default_options();
+    search.search_path = folder;
+    Cache elsewhere("/", search);
+    is(elsewhere.find("bricks.tif") == 0 && elsewhere.file_count() == 1, "a file of the search path");
 }
 
 static void moves(const char *folder)

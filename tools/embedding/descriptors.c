@@ -94,7 +94,7 @@ static void open_cache(uint32_t handles)
     texcache_options o = texcache_default_options();
     o.handles = handles;
     o.budget = 0;
-    if (texcache_open(&cache, folder, &o)) exit(2);
+    if (texcache_open(&cache, folder, &o) || texcache_find_all(cache, ".", NULL)) exit(2);
 }
 
 /* Fewer descriptors than files, and then as good as none: each file is answered. */
@@ -145,7 +145,8 @@ static void least_recently_used(void)
     IS(texcache_close(&cache) == TEXCACHE_OK);
 }
 
-/* A file of the same length and time takes the place of another: without force the old one is read on. */
+/* A file of the same length and time takes the place of another, which is a new version. With force the old one is closed
+ * in any case. */
 static void force(void)
 {
     texcache_pass *pass;
@@ -154,10 +155,12 @@ static void force(void)
     if (texcache_new_pass(cache, &pass)) exit(2);
     IS(value_of(pass, 5, &a) == 5);
     put(5, 105, true);
-    IS(texcache_invalidate(pass, 5, false, &a) == TEXCACHE_OK);
-    IS(texcache_invalidate(pass, 5, true, &a) == TEXCACHE_OK && a.generation == 1);
+    IS(texcache_invalidate(pass, 5, false, &a) == TEXCACHE_OK && a.generation == 2);
+    IS(value_of(pass, 5, &a) == 105 && a.generation == 2);
+    IS(cache->files[5].open != NULL);
+    IS(texcache_invalidate(pass, 5, true, &a) == TEXCACHE_OK && a.generation == 2);
     IS(!cache->files[5].open);
-    IS(value_of(pass, 5, &a) == 105 && a.generation == 1);
+    IS(value_of(pass, 5, &a) == 105 && a.generation == 2);
     IS(texcache_invalidate(pass, FILES, true, &a) == TEXCACHE_NO_FILE);
     put(5, 5, false);
     texcache_end(&pass);

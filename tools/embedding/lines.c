@@ -45,6 +45,7 @@ static char *refusal(int status, const texcache_answer *a)
     case TEXCACHE_NO_LEVEL: snprintf(text, sizeof text, "no level %u %u", a->generation, a->detail); break;
     case TEXCACHE_OUTSIDE: snprintf(text, sizeof text, "outside %u", a->generation); break;
     case TEXCACHE_AGAIN: snprintf(text, sizeof text, "again %u %u", a->generation, a->newer); break;
+    case TEXCACHE_NO_TILE:
     case TEXCACHE_NO_NAME: snprintf(text, sizeof text, "no such file"); break;
     default: snprintf(text, sizeof text, "%s", texcache_error_string(status));
     }
@@ -72,7 +73,6 @@ static char *answered(texcache_pass *pass, const char *line)
     int name = 0, status;
     memset(&r, 0, sizeof r);
     if (!strcmp(line, "sync")) return strdup("sync");
-    if (strstr(line, "<UDIM>")) return strdup("-");
     if (sscanf(line, "tex %d %d %u %15s %15s %15s %u %n", &r.s, &r.t, &r.lod, swrap, twrap, filter, &r.channels, &name) == 7 && name) {
         r.filter = number_of(filter, filters);
     } else if (sscanf(line, "texd %d %d %d %d %d %d %15s %15s %u %n", &r.s, &r.t, &r.dsdx, &r.dtdx, &r.dsdy, &r.dtdy, swrap, twrap,

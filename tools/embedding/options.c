@@ -504,7 +504,7 @@ int main(int count, char **words)
     folder = words[1];
     for (size_t i = 0; i < sizeof images / sizeof *images; i++) put_image(folder, images[i].name, images[i].image);
     make_levels();
-    if (texcache_open(&cache, folder, NULL) || texcache_this_thread(cache, &pass)) return 2;
+    if (texcache_open(&cache, folder, NULL) || texcache_find_all(cache, ".", NULL) || texcache_this_thread(cache, &pass)) return 2;
     snprintf(gone, sizeof gone, "%s/gone.tif", folder);
     unlink(gone);
     channels_and_bias();

@@ -1,6 +1,7 @@
-/* Files that are replaced while they are read never mix within an answer: replaced FOLDER THREADS MILLISECONDS,
+/* Files that are replaced while they are read never mix within an answer: replaced FOLDER THREADS MILLISECONDS [LEAST],
  * where FOLDER is empty. Each file has one value in all its texels, and each version another; a version is put in
- * the place of the one before by a rename. */
+ * the place of the one before by a rename. Then four threads look up in one file, which is replaced all the time: at
+ * least LEAST of their 12000 lookups have to be answered, and the others may only say that they are to be made again. */
 #define _XOPEN_SOURCE 700
 #include "texcache.h"
 #include <pthread.h>
@@ -9,11 +10,11 @@
 #include <string.h>
 #include <time.h>
 
-enum { FILES = 4, SIDE = 200, MANY = 200 };
+enum { FILES = 4, SIDE = 200, MANY = 200, READERS = 4, LOOKUPS = 3000 };
 
 static texcache *cache;
 static const char *folder;
-static int ends, mixed, older, answers, newest;
+static int ends, mixed, older, answers, newest, looked_up, again, running;
 
 /* A grey picture of 8 bits in strips of one row, with one value. */
 static void put(int file, int value)
@@ -70,9 +71,9 @@ static void *reads(void *given)
             status = texcache_texture_fixed(pass, file, &r, out, 8, &a);
             count = 1;
         }
-        if (status == TEXCACHE_AGAIN || status == TEXCACHE_READ_FAULT) continue;
+        if (status == TEXCACHE_AGAIN) continue;
         if (status) {
-            fprintf(stderr, "replaced: %s\n", texcache_error_string(status));
+            fprintf(stderr, "replaced: %s\n", texcache_last_error());
             exit(2);
         }
         for (size_t i = 1; i < count; i++)
@@ -92,16 +93,62 @@ static void *reads(void *given)
     return NULL;
 }
 
+/* Looks up in one file, of which nothing is kept. */
+static void *looks_up(void *given)
+{
+    const texcache_texture_options o = texcache_default_texture_options(1);
+    unsigned random = 54321 + (unsigned)(uintptr_t)given;
+    texcache_pass *pass;
+    if (texcache_this_thread(cache, &pass)) exit(2);
+    for (int i = 0; i < LOOKUPS; i++) {
+        uint16_t out;
+        random = random * 1664525u + 1013904223u;
+        int status = texcache_texture(pass, 0, &o, (random >> 8) / 16777216.0, (random >> 4 & 65535) / 65536.0, &out, 1, NULL);
+        if (status && status != TEXCACHE_AGAIN) {
+            fprintf(stderr, "replaced: %s\n", texcache_last_error());
+            exit(2);
+        }
+        __atomic_fetch_add(status ? &again : &looked_up, 1, __ATOMIC_RELAXED);
+    }
+    __atomic_fetch_sub(&running, 1, __ATOMIC_RELEASE);
+    return NULL;
+}
+
+/* Replaces one file more than 250 times a second while threads look up in it. Returns whether enough was answered. */
+static int one_file(int least)
+{
+    texcache_options o = texcache_default_options();
+    pthread_t ids[READERS];
+    struct timespec pause = {0, 1000000}, from, to;
+    int versions = 0;
+    uint32_t file;
+    o.budget = 0;
+    if (texcache_open(&cache, folder, &o) || texcache_find(cache, "f0.tif", &file)) exit(2);
+    running = READERS;
+    clock_gettime(CLOCK_MONOTONIC, &from);
+    for (int i = 0; i < READERS; i++) pthread_create(&ids[i], NULL, looks_up, (void *)(uintptr_t)i);
+    for (; __atomic_load_n(&running, __ATOMIC_ACQUIRE); versions++) {
+        put(0, versions % 251);
+        nanosleep(&pause, NULL);
+    }
+    for (int i = 0; i < READERS; i++) pthread_join(ids[i], NULL);
+    texcache_close(&cache);
+    clock_gettime(CLOCK_MONOTONIC, &to);
+    double seconds = (double)(to.tv_sec - from.tv_sec) + (double)(to.tv_nsec - from.tv_nsec) / 1e9;
+    printf("looked up %d again %d, %.0f versions a second\n", looked_up, again, versions / seconds);
+    return looked_up >= least;
+}
+
 int main(int count, char **words)
 {
-    if (count != 4) return 2;
+    if (count != 4 && count != 5) return 2;
     folder = words[1];
     int threads = atoi(words[2]), milliseconds = atoi(words[3]);
     texcache_options o = texcache_default_options();
     o.budget = 200000;
     o.handles = 2;
     for (int i = 0; i < FILES; i++) put(i, i);
-    if (texcache_open(&cache, folder, &o)) return 2;
+    if (texcache_open(&cache, folder, &o) || texcache_find_all(cache, ".", NULL)) return 2;
     pthread_t *ids = malloc(threads * sizeof *ids);
     for (int i = 0; i < threads; i++) pthread_create(&ids[i], NULL, reads, (void *)(uintptr_t)i);
     struct timespec pause = {0, 5000000};
@@ -114,5 +161,5 @@ int main(int count, char **words)
     free(ids);
     texcache_close(&cache);
     printf("answers %d mixed %d older %d newest %d\n", answers, mixed, older, newest);
-    return mixed || older || !answers;
+    return mixed || older || !answers || !one_file(count == 5 ? atoi(words[4]) : 0);
 }

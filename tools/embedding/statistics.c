@@ -257,7 +257,7 @@ int main(int count, char **words)
     folder = words[1];
     for (size_t i = 0; i < sizeof images / sizeof *images; i++) put_image(folder, images[i].name, images[i].image);
     o.budget = 200000, o.shards = 1;
-    if (texcache_open(&cache, folder, &o)) return 2;
+    if (texcache_open(&cache, folder, &o) || texcache_find_all(cache, ".", NULL)) return 2;
     snprintf(gone, sizeof gone, "%s/gone.tif", folder);
     unlink(gone);
     opens = reads = bytes = looks = 0;

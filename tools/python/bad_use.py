@@ -3,8 +3,10 @@ a text that names what is wrong. Then come what prints, what help says, and type
 import argparse
 import inspect
 import math
+import os
 import pydoc
 import sys
+import tempfile
 import typing
 
 NUMBER = 2 ** 40
@@ -39,17 +41,40 @@ def of_caches(t, folder):
     yield lambda: t.Cache(folder, slots=70000), t.Refused, "slots"
     yield lambda: t.Cache(folder, automip="no"), TypeError, "automip is 'no'"
     yield lambda: t.Cache(folder, automip=2), TypeError, "automip is 2"
+    yield lambda: t.Cache(folder, search_path=7), TypeError, "'int'"
+    yield lambda: t.Cache(folder, search_path=[7]), TypeError, "search_path is 7"
+    yield lambda: t.Cache(folder, search_path=["a:b"]), ValueError, "search_path has the folder 'a:b'"
+    yield lambda: t.Cache(folder, search_path="a\0b"), ValueError, "zero byte"
+    yield lambda: t.Cache(folder, search_path="x" * 5000), t.Refused, "too long"
+    yield lambda: t.Cache(folder, outside_paths="yes"), TypeError, "outside_paths is 'yes'"
+    yield lambda: t.Cache(folder, refuse_links=2), TypeError, "refuse_links is 2"
+    yield lambda: t.Cache(folder, missing_ms=-1), ValueError, "missing_ms is"
+
+
+def folder_of(cache):
+    return os.path.abspath(cache._folder)
 
 
 def of_files(t, cache, p, file):
     yield lambda: cache.find("nosuch.tif"), t.Refused, "nosuch.tif"
     yield lambda: cache.find(7), TypeError, "name is 7"
     yield lambda: cache.find("bricks.tif\0"), ValueError, "zero byte"
+    yield lambda: cache.find(""), t.Refused, "the name is empty"
+    yield lambda: cache.find(folder_of(cache)), t.Refused, "it is a folder"
+    yield lambda: cache.find("../nosuch.tif"), t.Refused, "outside_paths"
+    yield lambda: cache.find("x" * 5000), t.Refused, "too long"
+    yield lambda: cache.find_all("nowhere"), t.Refused, "nowhere: the folder cannot be opened"
+    yield lambda: cache.find_all(7), TypeError, "folder is 7"
+    yield lambda: cache.find("nosuch.<UDIM>.tif"), t.Refused, "no tile of this name is found"
+    yield lambda: cache.udim_tiles(file), t.Refused, "not that of a UDIM set"
+    yield lambda: cache.udim_file(file, 1001), t.Refused, "not that of a UDIM set"
+    yield lambda: cache.udim_file(file, -1), ValueError, "tile is -1"
+    yield lambda: cache.is_udim("wall.<UDIM>.tif"), TypeError, "Cache.find"
     for call in (p.info, p.invalidate, lambda it: p.texture(it, 0, 0), lambda it: p.texture_footprint(it, *[0] * 6),
                  lambda it: p.texture_fixed(it, 0, 0), lambda it: p.texture_d_fixed(it, *[0] * 6),
                  lambda it: p.texture(it, [0.5], [0.5]), lambda it: p.pixels(it, 0, 0, 0, 1, 1),
                  lambda it: p.get_tile(it, 0, 0, 0)):
-        yield lambda call=call: call(99), t.Refused, "99"
+        yield lambda call=call: call(4099), t.Refused, "4099"
         yield lambda call=call: call("bricks.tif"), TypeError, "Cache.find"
         yield lambda call=call: call(-1), ValueError, "file is -1"
         yield lambda call=call: call(NUMBER), ValueError, "file is"
@@ -183,6 +208,25 @@ def of_text(t, cache, p, file):
     yield "lookups" in cache.statistics() and len(cache.statistics(2)) > len(cache.statistics()), "statistics"
     yield cache.statistics_json()["files" if "files" in cache.statistics_json() else "file_count"] == len(cache), "JSON"
     yield cache.names()[file] == "bricks.tif" and len(cache.names()) == len(cache), "names"
+    yield cache.find("./nowhere/../bricks.tif") == cache.find(folder_of(cache) + "/bricks.tif") == file, "equal names"
+    with tempfile.TemporaryDirectory() as folder:
+        for tile in (1001, 1012):
+            os.symlink(folder_of(cache) + "/bricks.tif", f"{folder}/b.{tile}.tif")
+        with t.Cache(folder) as other:
+            udim, own, plain = other.find("b.<UDIM>.tif"), other.this_thread(), p.texture(file, 0.25, 0.5)
+            yield other.is_udim(udim) and not other.is_udim(0) and other.udim_tiles(udim) == [1001, 1012], "tiles"
+            yield own.texture(udim, 0.25, 0.5) == own.texture(udim, 1.25, 1.5) == plain, "a lookup in a tile"
+            yield other.names()[other.udim_file(udim, 1012)] == "b.1012.tif", "the file of a tile"
+            many = own.texture(udim, [0.25, 1.25], [0.5, 1.5])
+            yield [list(it) for it in many] == [plain, plain], "lookups in two tiles"
+            found, said = raised(lambda: own.texture(udim, 5.5, 0.5))
+            yield found is t.Refused and "b.<UDIM>.tif: tile 1006: " in said, said
+            yield own.texture(udim, 5.5, 0.5, floats=True, missing_color=[1, 0.5, 0]) == [1, 0.5, 0], "a missing tile"
+    with t.Cache("/", search_path=["/nowhere", folder_of(cache)]) as other:
+        yield other.find("bricks.tif") == 0 and other.names() == [folder_of(cache)[1:] + "/bricks.tif"], "a search path"
+    with t.Cache("/", search_path=folder_of(cache)) as other:
+        files = [it for it in sorted(os.listdir(folder_of(cache))) if os.path.isfile(os.path.join(folder_of(cache), it))]
+        yield other.find_all(folder_of(cache)) == len(files) == len(other), "all files"
     yield repr(t.PERIODIC) == "<Wrap.PERIODIC: 2>" and t.TRILINEAR == 2, "wraps and filters"
     for what in (t, t.Cache, t.Pass, t.Refused, *(getattr(t.Cache, it) for it in dir(t.Cache) if it[0] != "_"),
                  *(getattr(t.Pass, it) for it in dir(t.Pass) if it[0] != "_")):

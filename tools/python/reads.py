@@ -26,12 +26,13 @@ class Counter(threading.Thread):
             self.count += 1
 
 
-def calls(texcache, folder):
+def calls(texcache):
     """Each call that may read, by its name."""
     numpy = texcache.numpy
     s = numpy.linspace(0, 1, 100) if numpy else [it / 100 for it in range(100)]
     step = [0.01] * 100
-    yield "Cache", lambda textures, file: texcache.Cache(folder).close()
+    yield "find", lambda textures, file: textures._cache.find("rings.tif")
+    yield "find_all", lambda textures, file: textures._cache.find_all()
     yield "info", lambda textures, file: textures.info(file)
     yield "texture", lambda textures, file: textures.texture(file, 0.5, 0.5)
     yield "texture, floats", lambda textures, file: textures.texture(file, 0.5, 0.5, floats=True)
@@ -65,7 +66,7 @@ def main(texcache, folder):
     slow = ctypes.c_int.in_dll(ctypes.CDLL(None), "texcache_slow")
     counter, wrong, tried = Counter(), [], 0
     counter.start()
-    for name, call in calls(texcache, folder):
+    for name, call in calls(texcache):
         tried += 1
         most = 0
         for _ in range(TRIES):
@@ -75,7 +76,7 @@ def main(texcache, folder):
         else:
             wrong.append(f"{name}: the other thread made at most {most} steps")
     print(*wrong, f"{tried} calls, {len(wrong)} keep the lock", sep="\n")
-    return 1 if wrong or tried != 15 else 0
+    return 1 if wrong or tried != 16 else 0
 
 
 if __name__ == "__main__":

@@ -1,7 +1,7 @@
 """Tests the library tex_c, and the C, C++ and Python that use it.
 
 The demo's list and the stored run of texcache are answered by 1 and by 8 threads. Each answer must be the line of
-expected.txt or of the run's stdout; requests for UDIM textures are left out, because the library does not have them.
+expected.txt or of the run's stdout; C++ and Python leave requests for UDIM textures out.
 Each thread needs the same cells as the program's worker. Then come wrong calls, passes, threads and forks, open files,
 lookups on doubles, their options and the types of results, errors in words, statistics, files that are replaced while
 they are read, and the renderer's picture, which must be the same for 1 and 8 threads. All but the picture also run
@@ -27,18 +27,21 @@ FLAGS = ["-O2", "-Wall", "-Wextra", f"-I{TOP / 'include'}"]
 INSIDE = ["-std=c99", f"-I{SOURCES}"]
 # the library's calls for many lookups come through the test
 WRAP = "-Wl,--wrap=tex_c_texture_many"
-# what the C part reads comes through the test
+# what the C part reads, or asks the system about names, comes through the test
 WRAP_INPUT = "-Wl,--wrap=openat,--wrap=pread,--wrap=fstatat"
+WRAP_NAMES = "-Wl,--wrap=openat,--wrap=fstatat"
 THREADS = ("1", "8")
 # each test in C over an empty folder: its name, what it is about, its flags, and its arguments beside the folder
 OVER_FOLDERS = [("bad_use", "bad use and bad input", INSIDE, []),
                 ("passes", "passes, threads and forks", INSIDE, []),
                 ("descriptors", "open files", INSIDE, []),
+                ("paths", "names and paths of files", ["-std=c99", WRAP_NAMES], []),
+                ("udim", "UDIM sets", ["-std=c99"], []),
                 ("lookups", "lookups on doubles, and many in one call", [*INSIDE, WRAP], []),
                 ("errors", "errors in words", ["-std=c99"], []),
                 ("options", "options of lookups, and types of results", ["-std=c99"], []),
                 ("statistics", "statistics", ["-std=c99", WRAP_INPUT], []),
-                ("replaced", "files that are replaced while they are read", ["-std=c99"], ["8", "4000"])]
+                ("replaced", "files that are replaced while they are read", ["-std=c99"], ["8", "4000", "11990"])]
 # each test in C++ over the demo, and what it is about
 IN_CXX = [("lookups", "lookups on doubles"), ("calls", "all calls, by exceptions and by error codes")]
 

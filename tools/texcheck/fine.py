@@ -257,8 +257,9 @@ def worked(folder):
     picture.sizes = picture.sizes[:1]
     picture.write(folder / "worked")
     with texcache.Cache(folder / "worked") as cache, cache.new_pass() as textures:
+        file = cache.find(picture.name)
         for numbers, wanted in WORKED:
-            got = textures.texture_footprint(0, *numbers, 16, texcache.CLAMP, texcache.CLAMP, 1)
+            got = textures.texture_footprint(file, *numbers, 16, texcache.CLAMP, texcache.CLAMP, 1)
             if got != [wanted]:
                 yield f"worked out by hand, {numbers}: {got}, wanted {wanted}"
 

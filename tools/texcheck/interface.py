@@ -71,7 +71,7 @@ def found(archive):
 
 
 # the files of each line of the table in docs/EMBEDDING.md
-TABLE = (("texcache_posix.c",), ("texcache_passes.c",), ("texcache_lookups.c", "texcache_calls.c"), ("texcache_results.c",),
+TABLE = (("texcache_posix.c",), ("texcache_paths.c",), ("texcache_passes.c",), ("texcache_lookups.c", "texcache_calls.c"), ("texcache_results.c", "texcache_udim.c"),
          ("texcache_errors.c", "texcache_statistics.c"), ("texcache_inside.h", "version.c"))
 
 

@@ -140,7 +140,8 @@ class Folder:
     def __init__(self, path: str, budget: int) -> None:
         self.path, self.budget, self.events, self.ends = path, budget, Events(), threading.Event()
         # one pass is for the thread that watches, and one is the cache's own
-        self.cache = Cache(path, budget=budget, passes=PASSES + 2)
+        self.cache = Cache(path, budget=budget, passes=PASSES + 2, refuse_links=True)
+        self.cache.find_all()
         self.names = self.cache.names()
         self.ids = [quote(os.fsencode(it), safe="") for it in self.names]
         self.numbers = {os.fsencode(it): n for n, it in enumerate(self.names)}
