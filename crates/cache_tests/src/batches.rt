@@ -15,7 +15,8 @@ use tex_world::Tap;
 use texel_filter::Filter::{Bilinear, Closest};
 use texel_filter::Wrap::Clamp;
 use texture_sys::{
-    Batch, BatchOptions, FileLookups, FootprintOptions, Lookups, Place, PointOptions, texture_at,
+    Batch, BatchOptions, FileLookups, FootprintOptions, LookupPoint, Lookups, PointOptions,
+    texture_at,
 };
 use waiter::Waiter;
 
@@ -23,7 +24,7 @@ use waiter::Waiter;
 const MOST: usize = 3;
 
 /// The left upper corner, with a footprint of one point.
-const CORNER: Place = Place {
+const CORNER: LookupPoint = LookupPoint {
     s: 0,
     t: 0,
     dsdx: 0,
@@ -44,7 +45,7 @@ pub(crate) enum Places {
 }
 
 // Places with these coordinates.
-fn places_at(given: [(i64, i64); MOST]) -> [Place; MOST] {
+fn places_at(given: [(i64, i64); MOST]) -> [LookupPoint; MOST] {
     let mut places = [CORNER; MOST];
     for k in 0..MOST {
         places[k].s = given[k].0;
@@ -54,7 +55,7 @@ fn places_at(given: [(i64, i64); MOST]) -> [Place; MOST] {
 }
 
 // The places, and how many there are.
-fn places_of(places: Places) -> ([Place; MOST], usize)
+fn places_of(places: Places) -> ([LookupPoint; MOST], usize)
     ensures { result.1 ≤ 3 }
 {
     match places {

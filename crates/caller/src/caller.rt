@@ -2,11 +2,11 @@
 ghost use Rattle.std.specs.Prelude.{◌≡◌, ◌≤◌, IfOk, IfErr};
 ghost use Rattle.std.specs.Arc.{arc_value};
 ghost use Rattle.tex_world.specs.World.{max_files};
-ghost use Rattle.image_cache.specs.Options.{NewCause};
+ghost use Rattle.image_cache.specs.Options.{NewCause, LargeCause, opened_as};
 ghost use Rattle.tile_source.specs.Pass.{IsPassOf};
 ghost use Rattle.image_cache.specs.Pass.{IsNewCache, IsFirstPass};
 
-use image_cache::{Cache, NewError, Options, Pass};
+use image_cache::{Cache, LargeOptions, NewError, Options, Pass};
 use std::alloc::Global;
 use std::marker::Model;
 use std::sync::Arc;
@@ -58,6 +58,28 @@ impl<V: Waiter, T: Tap> Caller<V, T> {
         ensures cause { IfErr result (NewCause options) }
     {
         let (cache, pass) = Cache::new(alloc, options, files)?;
+        let cache = shared(alloc, cache)?;
+        Ok(Caller::of(cache, pass, waiter, tap))
+    }
+
+    /// Makes a cache like `new`, for up to 1024 passes and with larger shards.
+    pub fn new_large(
+        alloc: Global,
+        large: LargeOptions,
+        files: u32,
+        waiter: V,
+        tap: T,
+    ) -> Result<Caller<V, T>, NewError>
+    where
+        V: Drop,
+        T: Drop,
+        requires files { files ≤ max_files }
+        ensures cache { IfOk result (λ c. IsNewCache (opened_as large) files c.cache) }
+        ensures pass { IfOk result (λ c. IsFirstPass c.cache c.pass) }
+        ensures tap { IfOk result (λ c. c.tap ≡ tap) }
+        ensures cause { IfErr result (LargeCause large) }
+    {
+        let (cache, pass) = Cache::new_large(alloc, large, files)?;
         let cache = shared(alloc, cache)?;
         Ok(Caller::of(cache, pass, waiter, tap))
     }

@@ -6,16 +6,16 @@ use Rattle.clap.specs.Walk.{is_empty}
 use Rattle.clap.specs.declared.parser.matches.ArgMatches.{ArgMatches}
 use Rattle.clap.specs.declared.error.kind.ErrorKind.{ErrorKind}
 use Rattle.clap.specs.declared.error.kind.ErrorKind.TheVariants as kind
-use Rattle.command_line.specs.declared.options.Options.{Options}
+use Rattle.command_line.specs.declared.options.RunOptions.{RunOptions}
 use Rattle.command_line.specs.declared.invocation.Invocation.{Invocation}
 use Rattle.command_line.specs.declared.invocation.WordsError.{WordsError}
 use Rattle.command_line.specs.declared.invocation.WordsError.TheVariants.{Bad, NoMemory}
 use Rattle.command_line.specs.Command.{command}
-use Rattle.command_line.specs.Options.{options_of, ◌>>=◌}
+use Rattle.command_line.specs.RunOptions.{options_of, ◌>>=◌}
 
 -- the path of a folder, and options
 abbrev pub Asked : Type 0
-Asked = List ℕ × Options
+Asked = List ℕ × RunOptions
 
 -- what the parsed arguments ask for
 abbrev pub asked_for : List Row → Option Asked

@@ -1,4 +1,4 @@
 pub mod Range
 pub mod Command
-pub mod Options
+pub mod RunOptions
 pub mod Invocation

@@ -3,12 +3,12 @@
 ghost use Rattle.std.specs.Prelude.{◌≡◌, map, IfOk, IfSome, option_map};
 ghost use Rattle.std.specs.String.{string_bytes};
 ghost use Rattle.clap.specs.Words.{app_of, found_of, kind_of, rows_of};
-ghost use Rattle.command_line.specs.Options.{IsInRange};
+ghost use Rattle.command_line.specs.RunOptions.{IsInRange};
 ghost use Rattle.command_line.specs.Command as line;
 ghost use Rattle.command_line.specs.Invocation as spec;
 
 use crate::command::command;
-use crate::options::{Options, options_of, text_of};
+use crate::options::{RunOptions, options_of, text_of};
 use clap::error::ErrorKind;
 use clap::{ArgMatches, Command, Error};
 use std::alloc::{AllocError, Global};
@@ -19,7 +19,7 @@ pub struct Invocation<'a> {
     /// The path of the folder.
     pub folder: &'a str,
     /// The options of the run.
-    pub options: Options,
+    pub options: RunOptions,
 }
 
 /// Why the arguments are not accepted.

@@ -7,5 +7,5 @@ mod options;
 mod range;
 
 pub use invocation::{Invocation, WordsError, invocation_of};
-pub use options::Options;
+pub use options::RunOptions;
 pub use range::NumberRange;

@@ -3,7 +3,7 @@
 ghost use Rattle.std.specs.Prelude.{◌≡◌, ◌<◌, ◌≤◌, IfSome, option_map};
 ghost use Rattle.clap.specs.Words.{first_of, found_of, rows_of};
 ghost use Rattle.command_line.specs.Range.{Takes};
-ghost use Rattle.command_line.specs.Options as spec;
+ghost use Rattle.command_line.specs.RunOptions as spec;
 
 use crate::range::{
     AUTOTILE, BUDGET, HANDLES, NumberRange, SHARDS, SLOTS, WORKERS, number_or_default,
@@ -13,7 +13,7 @@ use tiff_format::Cut;
 
 /// The options of a run.
 #[derive(Clone, Copy, Debug, PartialEq, Eq)]
-pub struct Options {
+pub struct RunOptions {
     /// The number of workers that answer requests.
     pub workers: u32,
     /// The most bytes of cached texels.
@@ -53,7 +53,7 @@ fn is_given(matches: &ArgMatches<'_>, name: &str) -> bool
 }
 
 /// The options, from the parsed arguments.
-pub(crate) fn options_of(matches: &ArgMatches<'_>) -> Option<Options>
+pub(crate) fn options_of(matches: &ArgMatches<'_>) -> Option<RunOptions>
     ensures value { result ≡ spec.options_of (rows_of (found_of matches.now)) }
     ensures in_range { IfSome result spec.IsInRange }
 {
@@ -63,7 +63,7 @@ pub(crate) fn options_of(matches: &ArgMatches<'_>) -> Option<Options>
     let handles = number(matches, "handles", HANDLES)?;
     let autotile = number(matches, "autotile", AUTOTILE)?;
     let slots = number(matches, "slots", SLOTS)?;
-    Some(Options {
+    Some(RunOptions {
         workers: workers as u32,
         budget,
         shards: shards as u32,

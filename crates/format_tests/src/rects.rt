@@ -6,7 +6,7 @@ ghost use Rattle.tile_layout.specs.Pieces.{LiesOnLevel};
 
 use crate::layouts::{Place, has_rect, layout_in, rect_of};
 use crate::rect_cases::{CASES, RectCase, Wanted};
-use rect_read::{RectError, Texels, read_rect, read_texels};
+use rect_read::{RectError, RectSamples, read_rect, read_texels};
 use std::alloc::{AllocError, Global};
 use std::test::Fail;
 use test_files::{Checks, Failed, MemReader};
@@ -26,10 +26,10 @@ struct Taken {
 }
 
 /// The samples with two bytes each.
-fn shorts_of(alloc: Global, texels: Texels) -> Result<Vec<u16>, AllocError> {
+fn shorts_of(alloc: Global, texels: RectSamples) -> Result<Vec<u16>, AllocError> {
     match texels {
-        Texels::Shorts(samples) => Ok(samples),
-        Texels::Bytes(bytes) => {
+        RectSamples::Shorts(samples) => Ok(samples),
+        RectSamples::Bytes(bytes) => {
             let mut samples = Vec::new(alloc);
             for byte in &bytes {
                 samples.push(u16::from(*byte))?;
@@ -46,12 +46,12 @@ fn read_shorts(
     layout: &Layout,
     level: u32,
     rect: Rect,
-) -> Result<Texels, RectError<Failed>>
+) -> Result<RectSamples, RectError<Failed>>
     requires stored { level < stored_count layout.now }
     requires inside { LiesOnLevel layout.now level rect }
 {
     match read_rect(alloc, reader, layout, level, rect) {
-        Ok(samples) => Ok(Texels::Shorts(samples)),
+        Ok(samples) => Ok(RectSamples::Shorts(samples)),
         Err(error) => Err(error),
     }
 }
@@ -77,12 +77,12 @@ fn taken_of(
     };
     let (texels, failed) = match read {
         Ok(texels) => (texels, 0),
-        Err(RectError::Reader(Failed(read))) => (Texels::Bytes(Vec::new(alloc)), read),
+        Err(RectError::Reader(Failed(read))) => (RectSamples::Bytes(Vec::new(alloc)), read),
         Err(_) => return Err("no memory".into()),
     };
     let size = match &texels {
-        Texels::Bytes(_) => 1,
-        Texels::Shorts(_) => 2,
+        RectSamples::Bytes(_) => 1,
+        RectSamples::Shorts(_) => 2,
     };
     Ok(Taken {
         samples: shorts_of(alloc, texels)?,

@@ -4,7 +4,7 @@ use std::test::Fail;
 use test_files::{Checks, Untold};
 use tiff_format::Rect;
 use tile_layout::TileKey;
-use tile_store::{Row, Tile};
+use tile_store::{SampleRow, Tile};
 
 // Whether the texel is in the tile and has this sample.
 fn has_sample(tile: &Tile<Untold>, (x, y, c): (u32, u32, u32), sample: u16) -> bool {
@@ -16,7 +16,7 @@ fn has_sample(tile: &Tile<Untold>, (x, y, c): (u32, u32, u32), sample: u16) -> b
 }
 
 /// Whether the row has these samples.
-pub(crate) fn is_row(row: &Row<'_>, samples: &[u16]) -> bool {
+pub(crate) fn is_row(row: &SampleRow<'_>, samples: &[u16]) -> bool {
     if row.count() != samples.len() {
         return false;
     }

@@ -8,7 +8,7 @@ ghost use Rattle.gen_board.specs.View.{IsSameView, ViewAfterJoin};
 use crate::later::take_later;
 use crate::rule::Generations;
 use crate::sight::Sight;
-use crate::steps::{Copied, Joined, Look, Raise};
+use crate::steps::{Copied, JoinSights, LoadNumber, Raise};
 use crate::view::View;
 use atomic_table::Table;
 use std::alloc::{AllocError, Global};
@@ -72,7 +72,7 @@ impl<W: World> Board<W> {
         ensures looked { CountsLook file result v.old v.new }
     {
         let shared = &self.table.shared;
-        let found = shared.load::<Look<W>>(&mut v.seat, file as usize) as u32;
+        let found = shared.load::<LoadNumber<W>>(&mut v.seat, file as usize) as u32;
         v.seen[file as usize] = found;
         found
     }
@@ -122,6 +122,6 @@ impl<W: World> Board<W> {
             world: _,
         } = other;
         take_later(&mut v.seen, seen.as_slice());
-        self.table.shared.join_seat::<Joined>(&mut v.seat, seat);
+        self.table.shared.join_seat::<JoinSights>(&mut v.seat, seat);
     }
 }

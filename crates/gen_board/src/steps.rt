@@ -7,11 +7,11 @@ use std::marker::PhantomData;
 use tex_world::World;
 
 /// A load: the seat has then seen the number found.
-pub(crate) struct Look<W> {
+pub(crate) struct LoadNumber<W> {
     world: PhantomData<W>,
 }
 
-impl<W: World> Play<(), Sight> for Look<W> {
+impl<W: World> Play<(), Sight> for LoadNumber<W> {
     ghost then = { Looked W.files };
 }
 
@@ -34,9 +34,9 @@ impl Split<Sight> for Copied {
 }
 
 /// The seat has then seen the greater of both, and the other seat ends.
-pub(crate) struct Joined;
+pub(crate) struct JoinSights;
 
-impl Join<Sight> for Joined {
+impl Join<Sight> for JoinSights {
     ghost both = { both_sights };
 
     ghost spent = { spent_sight };

@@ -3,7 +3,7 @@
 ghost use Rattle.std.specs.Prelude.{◌≡◌, ◌+◌, ◌*◌, ◌<◌, ◌≤◌, ℕ, length, slice_index};
 ghost use Rattle.tiff_format.specs.Level.{halved};
 ghost use Rattle.tile_layout.specs.Texel.{average, clamped};
-ghost use Rattle.tile_store.specs.Row.{top_of, bottom_of};
+ghost use Rattle.tile_store.specs.SampleRow.{top_of, bottom_of};
 ghost use Rattle.half_rows.specs.Quarters.{row_sample, row_average, IsHalfAt};
 
 use tile_store::TwoRows;

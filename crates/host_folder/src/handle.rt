@@ -3,7 +3,7 @@ ghost use Rattle.std.specs.Prelude.{◌≡◌, ◌<◌, ◌≤◌};
 ghost use Rattle.tex_world.specs.World.{last_generation};
 ghost use Rattle.host_folder.specs.RealWorld.{handle_in_range};
 
-use crate::stamp::Look;
+use crate::stamp::FileStatus;
 use crate::world::RealWorld;
 use std::fs::File;
 use tex_world::TapHandle;
@@ -13,7 +13,7 @@ use tex_world::TapHandle;
 pub struct RealHandle {
     file: u32,
     generation: u32,
-    look: Look,
+    look: FileStatus,
     source: File,
     ghost low: { 1 ≤ generation },
     ghost high: { generation ≤ last_generation },
@@ -21,7 +21,7 @@ pub struct RealHandle {
 
 impl RealHandle {
     /// A handle of an open file, which was seen in this way at this generation.
-    pub(crate) fn new(file: u32, generation: u32, look: Look, source: File) -> Self
+    pub(crate) fn new(file: u32, generation: u32, look: FileStatus, source: File) -> Self
         requires low { 1 ≤ generation }
         requires high { generation ≤ last_generation }
         ensures file { result.file ≡ file }

@@ -18,14 +18,14 @@ const NANO_WEIGHT: u128 = 1_000_003;
 
 /// What was seen of a plain file: its length in bytes and its stamp.
 #[derive(Clone, Copy)]
-pub struct Look {
+pub struct FileStatus {
     pub len: u64,
     pub stamp: u64,
     ghost in_range: { stamp < stamps },
 }
 
 /// What the system says about a file. `None` if it is not a plain file.
-pub fn look_of(metadata: &Metadata) -> Option<Look>
+pub fn status_of(metadata: &Metadata) -> Option<FileStatus>
     ensures plain { IsSome result ↔ IsFile (file_type metadata.now) }
     ensures len { IfSome result (λ look. look.len ≡ metadata_len metadata.now) }
     ensures stamp { IfSome result (λ look. HasStamp look.len look.stamp) }
@@ -35,7 +35,7 @@ pub fn look_of(metadata: &Metadata) -> Option<Look>
     }
     let len = metadata.len();
     let stamp = stamp_of(len, modified(metadata));
-    Some(Look { len, stamp })
+    Some(FileStatus { len, stamp })
 }
 
 /// When the file was changed, in nanoseconds since 1970. 0 if the system gives no time or an

@@ -2,15 +2,15 @@
 ghost use Rattle.std.specs.Prelude.{◌≡◌, ◌+◌, ◌<◌, ◌≤◌, min, OnOk, IfErr, IfSome};
 ghost use Rattle.tex_world.specs.Counts.{last_count};
 ghost use Rattle.tex_world.specs.World.{last_generation};
-ghost use Rattle.tex_world.specs.Tap.{IsNew};
+ghost use Rattle.tex_world.specs.Tap.{IsNew, NamesNewer};
 ghost use Rattle.host_folder.specs.RealHandle.{handle_named};
-ghost use Rattle.host_folder.specs.RealTap.{tap_state, AddsFault, AddsMove, AddsLoss};
-ghost use Rattle.host_folder.specs.RealTap.{NamesNewer, MeetsRead, LooksTwice};
+ghost use Rattle.host_folder.specs.RealTap.{tap_state, LooksTwice};
+ghost use Rattle.host_folder.specs.RealWorld.{untold_files};
 ghost use Rattle.host_folder.specs.Stamp.{stamps};
 
 use crate::handle::RealHandle;
 use crate::listing::Listing;
-use crate::stamp::{Look, generation_after, look_of, settled};
+use crate::stamp::{FileStatus, generation_after, settled, status_of};
 use crate::world::RealWorld;
 use std::alloc::Global;
 use std::fs;
@@ -18,7 +18,7 @@ use std::fs::{File, Files};
 use std::os::unix::fs::FileExt;
 use std::sync::Arc;
 use std::sync::atomic::{AtomicU64, Ordering};
-use tex_world::{Failed, OpenError, ReadError, Tap, TapHandle};
+use tex_world::{Failed, OpenError, ReadError, Tap, TapCounters, TapHandle};
 
 /// Reads the files of a folder as it was listed. All taps share one word per file: the generation
 /// in which the file was last seen, and its stamp. No call waits for another tap.
@@ -26,13 +26,7 @@ use tex_world::{Failed, OpenError, ReadError, Tap, TapHandle};
 pub struct RealTap<R> {
     rt: R,
     listing: Option<Arc<Listing>>,
-    faults: u64,
-    calls: u64,
-    opens: u64,
-    asks: u64,
-    moves: u64,
-    lost: u64,
-    newest: (u32, u32),
+    counters: TapCounters,
     /// The number of freshness checks made by reads.
     looks: u64,
 }
@@ -41,12 +35,12 @@ pub struct RealTap<R> {
 #[derive(Clone, Copy)]
 struct Settled {
     generation: u32,
-    look: Look,
+    look: FileStatus,
 }
 
-/// Rows of `row` bytes, the first at `at`, each `stride` bytes after the one before.
+/// ByteRows of `row` bytes, the first at `at`, each `stride` bytes after the one before.
 #[derive(Clone, Copy)]
-struct Rows {
+struct ByteRows {
     at: u64,
     stride: u64,
     row: usize,
@@ -61,13 +55,7 @@ impl<R> RealTap<R> {
         RealTap {
             rt,
             listing,
-            faults: 0,
-            calls: 0,
-            opens: 0,
-            asks: 0,
-            moves: 0,
-            lost: 0,
-            newest: (0, 0),
+            counters: TapCounters::new(),
             looks: 0,
         }
     }
@@ -76,49 +64,14 @@ impl<R> RealTap<R> {
     pub fn faults(&self) -> u64
         ensures { result ≡ (tap_state self.now).faults }
     {
-        self.faults
+        self.counters.faults()
     }
 
     /// How often the tap met a newer generation.
     pub fn moves(&self) -> u64
         ensures { result ≡ (tap_state self.now).moves }
     {
-        self.moves
-    }
-
-    /// Counts an I/O error.
-    fn count_fault(&mut self)
-        ensures { AddsFault (tap_state self.old) (tap_state self.new) }
-    {
-        self.faults = self.faults.saturating_add(1);
-    }
-
-    /// Counts that a newer generation was met.
-    fn count_move(&mut self)
-        ensures { AddsMove (tap_state self.old) (tap_state self.new) }
-    {
-        self.moves = self.moves.saturating_add(1);
-    }
-
-    /// Counts a read that failed because a newer generation was met.
-    fn count_loss(&mut self)
-        ensures { AddsLoss (tap_state self.old) (tap_state self.new) }
-    {
-        self.moves = self.moves.saturating_add(1);
-        self.lost = self.lost.saturating_add(1);
-    }
-
-    /// Counts what a read met.
-    fn told(&mut self, read: Result<(), ReadError>) -> Result<(), ReadError>
-        ensures same { result ≡ read }
-        ensures met { MeetsRead (tap_state self.old) (tap_state self.new) read }
-    {
-        match read {
-            Ok(()) => {}
-            Err(ReadError::Failed) => self.count_fault(),
-            Err(ReadError::Gone(_to)) => self.count_loss(),
-        }
-        read
+        self.counters.moves()
     }
 
     /// The path to open a file.
@@ -132,9 +85,9 @@ impl<R> RealTap<R> {
 
 impl<R: Files<File = File>> RealTap<R> {
     /// The length and the stamp of the file at its path. `None` if there is no plain file.
-    fn look(&self, file: u32) -> Option<Look> {
+    fn look(&self, file: u32) -> Option<FileStatus> {
         match fs::metadata(&self.rt, self.path_of(file)?) {
-            Ok(metadata) => look_of(&metadata),
+            Ok(metadata) => status_of(&metadata),
             Err(_) => None,
         }
     }
@@ -186,7 +139,7 @@ impl<R: Files<File = File>> RealTap<R> {
     fn fill(&mut self, h: &RealHandle, at: u64, buf: &mut [u8]) -> Result<(), ReadError>
         ensures same { tap_state self.new ≡ tap_state self.old }
         ensures looks { OnOk result (LooksTwice self.old self.new) }
-        ensures newer { IfErr result (NamesNewer (handle_named h.now)) }
+        ensures newer { IfErr result (NamesNewer untold_files (handle_named h.now)) }
     {
         self.stay(h)?;
         let read = h.source().read_exact_at(buf, at);
@@ -199,10 +152,10 @@ impl<R: Files<File = File>> RealTap<R> {
 
     /// Fills the buffer with rows from the open file. The stamp must be the handle's both before
     /// the first row and after the last.
-    fn fill_rows(&mut self, h: &RealHandle, rows: Rows, buf: &mut [u8]) -> Result<(), ReadError>
+    fn fill_rows(&mut self, h: &RealHandle, rows: ByteRows, buf: &mut [u8]) -> Result<(), ReadError>
         ensures same { tap_state self.new ≡ tap_state self.old }
         ensures looks { OnOk result (LooksTwice self.old self.new) }
-        ensures newer { IfErr result (NamesNewer (handle_named h.now)) }
+        ensures newer { IfErr result (NamesNewer untold_files (handle_named h.now)) }
     {
         self.stay(h)?;
         let read = are_read(h.source(), rows, buf);
@@ -215,7 +168,7 @@ impl<R: Files<File = File>> RealTap<R> {
     fn stay(&mut self, h: &RealHandle) -> Result<(), ReadError>
         ensures same { tap_state self.new ≡ tap_state self.old }
         ensures looks { self.new.looks ≡ min (self.old.looks + 1) last_count }
-        ensures newer { IfErr result (NamesNewer (handle_named h.now)) }
+        ensures newer { IfErr result (NamesNewer untold_files (handle_named h.now)) }
     {
         self.looks = self.looks.saturating_add(1);
         match self.look(h.file()) {
@@ -249,9 +202,9 @@ pub fn settle_word(word: &AtomicU64, loaded: u64, stamp: u64) -> Option<u32>
 }
 
 /// Whether an open file has the length and the stamp that were seen.
-fn is_seen(source: &File, look: Look) -> bool {
+fn is_seen(source: &File, look: FileStatus) -> bool {
     match source.metadata() {
-        Ok(metadata) => match look_of(&metadata) {
+        Ok(metadata) => match status_of(&metadata) {
             Some(here) => here.len == look.len && here.stamp == look.stamp,
             None => false,
         },
@@ -261,7 +214,7 @@ fn is_seen(source: &File, look: Look) -> bool {
 
 /// Fills the buffer with rows from an open file, in one read if they follow one another. False if a
 /// read failed.
-fn are_read(source: &File, rows: Rows, buf: &mut [u8]) -> bool {
+fn are_read(source: &File, rows: ByteRows, buf: &mut [u8]) -> bool {
     if rows.row as u64 == rows.stride {
         return source.read_exact_at(buf, rows.at).is_ok();
     }
@@ -285,46 +238,31 @@ impl<R: Files<File = File>> Tap for RealTap<R> {
     /// Allocates nothing. Fails if the opened file has another stamp or length than was seen when
     /// its generation was determined.
     fn open(&mut self, _alloc: Global, file: u32, least: u32) -> Result<RealHandle, OpenError> {
-        self.calls = self.calls.saturating_add(1);
-        self.opens = self.opens.saturating_add(1);
-        match self.opened(file, least) {
-            Some(h) => {
-                if 0 < least && least < h.generation() {
-                    self.count_move();
-                }
-                Ok(h)
-            }
-            None => {
-                self.count_fault();
-                Err(OpenError::Failed)
-            }
-        }
+        let opened = self.opened(file, least).ok_or(OpenError::Failed);
+        self.counters.count_open(least, &opened);
+        opened
     }
 
     fn newest(&mut self, file: u32, least: u32) -> Result<u32, Failed> {
-        self.calls = self.calls.saturating_add(1);
-        match self.settle(file, least) {
-            Some(settled) => {
-                self.asks = self.asks.saturating_add(1);
-                self.newest = (file, settled.generation);
-                Ok(settled.generation)
-            }
-            None => {
-                self.count_fault();
-                Err(Failed)
-            }
-        }
+        let newest = match self.settle(file, least) {
+            Some(settled) => Ok(settled.generation),
+            None => Err(Failed),
+        };
+        self.counters.count_newest(file, newest);
+        newest
     }
 
     /// Checks the stamp of the file at the path before and after the read. So it notices a file
     /// that was replaced as well as one that was rewritten. The bytes come from the open file.
+    #[tactic(auto, using(tex_world::proofs::TapLemmas::read_cause))]
     fn read_at(&mut self, h: &mut RealHandle, at: u64, buf: &mut [u8]) -> Result<(), ReadError> {
-        self.calls = self.calls.saturating_add(1);
         let read = self.fill(h, at, buf);
-        self.told(read)
+        self.counters.count_read(read);
+        read
     }
 
     /// Checks the stamp before the first row and after the last one.
+    #[tactic(auto, using(tex_world::proofs::TapLemmas::read_cause))]
     fn read_rows(
         &mut self,
         h: &mut RealHandle,
@@ -333,8 +271,8 @@ impl<R: Files<File = File>> Tap for RealTap<R> {
         row: usize,
         buf: &mut [u8],
     ) -> Result<(), ReadError> {
-        self.calls = self.calls.saturating_add(1);
-        let read = self.fill_rows(h, Rows { at, stride, row }, buf);
-        self.told(read)
+        let read = self.fill_rows(h, ByteRows { at, stride, row }, buf);
+        self.counters.count_read(read);
+        read
     }
 }

@@ -17,13 +17,13 @@ use Rattle.file_table.specs.Calls.{KeepsView}
 use Rattle.micro.specs.Runs.{AreAsked}
 use Rattle.pinned_tiles.specs.Pinned.{key_in}
 use Rattle.texel_values.specs.declared.area.Area.{Area}
-use Rattle.texel_values.specs.declared.window.Window.{Window}
+use Rattle.texel_values.specs.declared.window.RegionShape.{RegionShape}
 use Rattle.texel_values.proofs.PlaceLemmas.{less_or_not}
 use Rattle.tile_layout.specs.Key.{key_of}
 use Rattle.texel_values.specs.Area.{IsZeroBeside, area_cell}
 use Rattle.texel_values.specs.Region.{value_at}
 use Rattle.tile_layout.specs.Value.{channel_value_of}
-use Rattle.texel_values.specs.Window.{column_of, row_of, HasValuesOn, KeepsOthersOn}
+use Rattle.texel_values.specs.RegionShape.{column_of, row_of, HasValuesOn, KeepsOthersOn}
 use Rattle.tile_source.specs.Pass.{PassState}
 use Rattle.tile_source.specs.Pass.{counted_together, max_count, SameCounts}
 use Rattle.tile_source.specs.Call.{Needs}
@@ -120,7 +120,7 @@ holds_or_not rect x y = left (less_or_not x rect.x)
     left (inr l) = right l (less_or_not x (rect.x + rect.w))
 
 -- what was painted of one rectangle stays when another one is painted
-pub painted_stays : (bytes : List ℕ) (level : ℕ) (window : Window) (height : ℕ) (one other : Rect)
+pub painted_stays : (bytes : List ℕ) (level : ℕ) (window : RegionShape) (height : ℕ) (one other : Rect)
     (old new : List ℕ) → HasValuesOn bytes level one window height old
     → HasValuesOn bytes level other window height new
     → KeepsOthersOn other window height old new → HasValuesOn bytes level one window height new

@@ -4,7 +4,8 @@ ghost use Rattle.tex_world.specs.World.{max_files};
 ghost use Rattle.tile_store.specs.Tag.{tag_of};
 ghost use Rattle.shard_gate.specs.Gate.{IsSameSeat, JoinsVisits, max_shards};
 ghost use Rattle.shard_gate.specs.Given.{AtShard, Counts};
-ghost use Rattle.image_cache.specs.Options.{NewCause, first_bad};
+ghost use Rattle.image_cache.specs.Options.{NewCause, first_bad, IsWithin};
+ghost use Rattle.image_cache.specs.Options.{LargeCause, first_bad_large, opened_as};
 ghost use Rattle.tile_source.specs.Pass.{IsPassOf};
 ghost use Rattle.image_cache.specs.Pass.{IsNewCache, IsFirstPass, IsSecondPass};
 ghost use Rattle.image_cache.specs.Pass.{PassAfterSplit, PassAfterJoin, SeesBoth, JoinsReleased};
@@ -15,7 +16,7 @@ ghost use Rattle.image_cache.specs.Cause.{SplitCause};
 ghost use Rattle.pinned_tiles.specs.Pinned.{LeavesPart, tiles_at};
 
 use crate::error::{NotJoined, SplitError};
-use crate::options::{NewError, Options};
+use crate::options::{LargeOptions, NewError, Options};
 use file_table::Files;
 use pinned_tiles::Pinned;
 use shard_gate::Gate;
@@ -65,6 +66,29 @@ impl<T: Tap> Cache<T> {
             return Err(NewError::BadOptions(bad));
         }
         let made = made(alloc, options, files)?;
+        Ok(made)
+    }
+
+    /// Makes a cache like `new`, for up to 1024 passes, a budget up to 2^40 bytes and up to 65536
+    /// tiles in each shard.
+    ///
+    /// A shard has 1024 slots and 7 for each permit. More permits than passes are therefore made if
+    /// `tiles_per_shard` needs them, and `split` can make that many passes.
+    pub fn new_large(
+        alloc: Global,
+        large: LargeOptions,
+        files: u32,
+    ) -> Result<(Cache<T>, Pass<T::W>), NewError>
+        requires files { files ≤ max_files }
+        ensures cache { IfOk result (λ made. IsNewCache (opened_as large) files made.0) }
+        ensures pass { IfOk result (λ made. IsFirstPass made.0 made.1) }
+        ensures good { OnOk result (first_bad_large large ≡ None) }
+        ensures cause { IfErr result (LargeCause large) }
+    {
+        if let Some(bad) = large.first_bad() {
+            return Err(NewError::BadOptions(bad));
+        }
+        let made = made(alloc, large.opened(), files)?;
         Ok(made)
     }
 
@@ -227,7 +251,7 @@ fn made<T: Tap>(
     options: Options,
     files: u32,
 ) -> Result<(Cache<T>, Pass<T::W>), NoMemory>
-    requires options { first_bad options ≡ None }
+    requires options { IsWithin options }
     requires files { files ≤ max_files }
     ensures cache { IfOk result (λ made. IsNewCache options files made.0) }
     ensures pass { IfOk result (λ made. IsFirstPass made.0 made.1) }

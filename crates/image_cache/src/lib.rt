@@ -18,7 +18,7 @@ mod squares;
 pub use cache::Cache;
 pub use checks::picture_of;
 pub use error::{NotJoined, NotReleased, SplitError};
-pub use options::{NewError, Options};
+pub use options::{LargeOptions, NewError, Options};
 pub use pixels::Pixels;
 pub use texel_values::{Region, TexelAt};
 pub use tile_source::{CacheError, Pass};

@@ -5,7 +5,7 @@ ghost use Rattle.std.specs.Option.{ForSome};
 ghost use Rattle.tex_world.specs.World.{IsFile, max_files};
 ghost use Rattle.tiff_format.specs.Facts.{IsChannelCount};
 ghost use Rattle.texel_values.specs.Region.{max_texels, AreRegionValues};
-ghost use Rattle.texel_values.specs.Window.{HasValues, HasValuesOn, KeepsOthersOn};
+ghost use Rattle.texel_values.specs.RegionShape.{HasValues, HasValuesOn, KeepsOthersOn};
 ghost use Rattle.texel_values.specs.Area.{IsAreaOf, IsPainted, IsZeroBeside, area_cell, area_cells};
 ghost use Rattle.tile_layout.specs.Grid.{shown_grid};
 ghost use Rattle.tile_layout.specs.Key.{key_of, level_of};

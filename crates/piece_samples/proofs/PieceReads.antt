@@ -9,7 +9,7 @@ use Rattle.tile_layout.specs.FormatOf.{IsFormatOf}
 use Rattle.tile_layout.specs.Pieces.{LiesSideBySide}
 use Rattle.tile_layout.specs.declared.piece.Piece.{Piece}
 use Rattle.tile_layout.specs.declared.texel_format.TexelFormat.{TexelFormat}
-use Rattle.piece_samples.specs.Row.{IsReadSample, AfterReads}
+use Rattle.piece_samples.specs.TexelRow.{IsReadSample, AfterReads}
 use Rattle.piece_samples.specs.Unpacked.{unpacked}
 use Rattle.piece_samples.proofs.PieceEnds.{end_of_piece}
 use Rattle.piece_samples.proofs.PieceValues.{value_is}

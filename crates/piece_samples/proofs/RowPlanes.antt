@@ -11,7 +11,7 @@ use Rattle.tile_layout.specs.Plane.{plane_level}
 use Rattle.tile_layout.specs.Texel.{AreTexelsOn}
 use Rattle.tile_layout.proofs.PlaneBlocks.{plane_held, plane_sample}
 use Rattle.piece_samples.specs.Beyond.{CountAsZero}
-use Rattle.piece_samples.specs.Row.{IsReadSample, row_rect}
+use Rattle.piece_samples.specs.TexelRow.{IsReadSample, row_rect}
 
 -- the plane of a sample of channel c, and its place there
 record StandsAt (planes aside channels p a c : ℕ) : Type 0 where

@@ -10,7 +10,7 @@ use Rattle.tile_layout.specs.declared.texel_format.TexelFormat.{TexelFormat}
 use Rattle.tile_layout.specs.Pieces.{row_texels, rect_texels, LiesSideBySide}
 use Rattle.tile_layout.proofs.TexelLemmas.{row_split, length-row_texels}
 use Rattle.piece_samples.specs.Beyond.{IsBeyond, IsPlaneBeyond}
-use Rattle.piece_samples.specs.Row.{IsReadSample, row_rect}
+use Rattle.piece_samples.specs.TexelRow.{IsReadSample, row_rect}
 use Rattle.piece_samples.proofs.PieceEnds.{end_of_piece}
 
 -- the texels of a row are those of its rectangle

@@ -2,4 +2,4 @@ pub mod Unpacked
 pub mod Places
 pub mod Beyond
 pub mod LayoutOf
-pub mod Row
+pub mod TexelRow

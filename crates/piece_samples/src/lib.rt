@@ -8,6 +8,6 @@ mod samples;
 mod span;
 
 pub use places::Places;
-pub use row::{MAX_ROW_TEXELS, Row, read_row};
+pub use row::{MAX_ROW_TEXELS, TexelRow, read_row};
 pub use samples::{unpack_among, unpack_samples};
 pub use span::Span;

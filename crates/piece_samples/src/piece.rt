@@ -7,7 +7,7 @@ ghost use Rattle.tiff_format.specs.Bytes.{IsPartAt};
 ghost use Rattle.tile_layout.specs.FormatOf.{IsFormatOf};
 ghost use Rattle.tile_layout.specs.Pieces.{LiesSideBySide};
 ghost use Rattle.piece_samples.specs.Places.{FitsPlaces};
-ghost use Rattle.piece_samples.specs.Row.{IsReadSample, AfterReads, max_row_texels};
+ghost use Rattle.piece_samples.specs.TexelRow.{IsReadSample, AfterReads, max_row_texels};
 ghost use Rattle.piece_samples.specs.Unpacked.{KeepsDepth};
 
 use crate::places::Places;

@@ -9,7 +9,7 @@ ghost use Rattle.tile_layout.specs.Kept.{level_in};
 ghost use Rattle.tile_layout.specs.Plane.{plane_in};
 ghost use Rattle.tile_layout.specs.Texel.{AreTexelsOn, FitDepth};
 ghost use Rattle.piece_samples.specs.Beyond.{CountAsZero, IsAllBeyond, IsPlaneBeyond};
-ghost use Rattle.piece_samples.specs.Row.{AfterReads, IsReadSample, IsRow, row_rect};
+ghost use Rattle.piece_samples.specs.TexelRow.{AfterReads, IsReadSample, IsRow, row_rect};
 
 use crate::piece::read_piece;
 use crate::places::Places;
@@ -22,7 +22,7 @@ pub const MAX_ROW_TEXELS: u32 = 64;
 
 /// Texels of a row of a stored level: n of them, at most 64, from (x, y) on.
 #[derive(Drop)]
-pub struct Row<'a> {
+pub struct TexelRow<'a> {
     pub layout: &'a Layout,
     pub level: u32,
     pub x: u32,
@@ -32,7 +32,7 @@ pub struct Row<'a> {
 }
 
 /// The rectangle of a row.
-fn rect_of(row: &Row<'_>) -> Rect
+fn rect_of(row: &TexelRow<'_>) -> Rect
     ensures { result ≡ row_rect row.now.x row.now.y row.now.n }
 {
     Rect {
@@ -46,7 +46,7 @@ fn rect_of(row: &Row<'_>) -> Rect
 /// Reads the samples of a row in one plane, each to its place among those of the other planes.
 fn read_plane<B: ByteReader>(
     reader: &mut B,
-    row: &Row<'_>,
+    row: &TexelRow<'_>,
     plane: u32,
     samples: &mut [u16],
 ) -> Result<(), B::Error>
@@ -101,7 +101,7 @@ fn read_plane<B: ByteReader>(
 /// Allocates nothing.
 pub fn read_row<B: ByteReader>(
     reader: &mut B,
-    row: &Row<'_>,
+    row: &TexelRow<'_>,
     samples: &mut [u16],
 ) -> Result<(), B::Error>
     requires { length samples.old

@@ -16,7 +16,7 @@ use Rattle.tile_layout.specs.declared.texel_format.TexelFormat.{TexelFormat}
 use Rattle.piece_samples.specs.Unpacked.{unpacked}
 use Rattle.rect_read.specs.declared.run.Run.{Run}
 use Rattle.rect_read.specs.Run.{AppendsRun}
-use Rattle.rect_read.specs.Texels.{AreBytes}
+use Rattle.rect_read.specs.RectSamples.{AreBytes}
 use Rattle.rect_read.proofs.SampleValues.{span_samples}
 
 -- a byte is its own number, in either order

@@ -10,7 +10,7 @@ use Rattle.std.proofs.lemmas.List.FromFn.{length-map-range_with_len, get_or-map-
 use Rattle.piece_samples.specs.declared.places.Places.{Places}
 use Rattle.rect_read.specs.declared.samples.Samples.{Samples}
 use Rattle.rect_read.specs.Taken.{taken_by, samples_among, KeepsOthers, FitsSamples}
-use Rattle.rect_read.specs.Texels.{samples_of, are_wide}
+use Rattle.rect_read.specs.RectSamples.{samples_of, are_wide}
 use Rattle.tile_layout.specs.declared.texel_format.TexelFormat.{TexelFormat}
 use Rattle.rect_read.proofs.Appended.{is_appended}
 

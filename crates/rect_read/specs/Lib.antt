@@ -1,5 +1,5 @@
 pub use Rattle.piece_samples.specs.Beyond
-pub mod Place
+pub mod PlaneRect
 pub mod Window
 pub mod Run
 pub mod Samples
@@ -7,4 +7,4 @@ pub mod RectRead
 pub mod Zeros
 pub mod Planes
 pub mod Taken
-pub mod Texels
+pub mod RectSamples

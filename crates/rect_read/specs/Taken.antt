@@ -6,7 +6,7 @@ use Rattle.piece_samples.specs.declared.places.Places.{Places}
 use Rattle.piece_samples.specs.Places.{FitsPlaces}
 use Rattle.tile_layout.specs.declared.texel_format.TexelFormat.{TexelFormat}
 use Rattle.rect_read.specs.declared.samples.Samples.{Samples}
-use Rattle.rect_read.specs.Texels.{are_wide, samples_of, FitsTexels}
+use Rattle.rect_read.specs.RectSamples.{are_wide, samples_of, FitsTexels}
 
 -- the first n samples of a plane, found at their places among those of all planes
 abbrev pub samples_among : ℕ → ℕ → ℕ → List ℕ → List ℕ

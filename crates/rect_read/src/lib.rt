@@ -12,8 +12,8 @@ mod samples;
 mod texels;
 mod window;
 
-pub use place::Place;
+pub use place::PlaneRect;
 pub use rect::{read_rect, read_texels};
 pub use rect_error::RectError;
-pub use texels::{Texels, narrowed};
+pub use texels::{RectSamples, narrowed};
 pub use window::MAX_GAP;

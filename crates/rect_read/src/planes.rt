@@ -12,16 +12,16 @@ ghost use Rattle.tile_layout.specs.Texel.{AreTexelsOn, FitDepth};
 ghost use Rattle.rect_read.specs.RectRead.{LeavesReader};
 ghost use Rattle.piece_samples.specs.Beyond.{CountAsZero, IsFilled, IsAllBeyond, IsPlaneBeyond};
 ghost use Rattle.rect_read.specs.Taken.{taken, FitsSamples, KeepsOthers};
-ghost use Rattle.rect_read.specs.Texels.{are_wide, samples_of, FitsTexels};
+ghost use Rattle.rect_read.specs.RectSamples.{are_wide, samples_of, FitsTexels};
 ghost use Rattle.piece_samples.specs.Unpacked.{KeepsDepth};
 ghost use Rattle.rect_read.specs.Zeros.{AreZerosBeyond};
 
-use crate::place::Place;
-use crate::reading::Reading;
+use crate::place::PlaneRect;
+use crate::reading::RectReader;
 use crate::rect_error::RectError;
-use crate::rows::Rows;
+use crate::rows::RowLayout;
 use crate::samples::Samples;
-use crate::texels::Texels;
+use crate::texels::RectSamples;
 use std::alloc::{AllocError, Global};
 use tiff_entries::ByteReader;
 use tiff_format::Rect;
@@ -32,7 +32,7 @@ use tile_layout::TexelFormat;
 pub(crate) fn read_plane<B: ByteReader>(
     alloc: Global,
     reader: &mut B,
-    place: &Place<'_>,
+    place: &PlaneRect<'_>,
     format: &TexelFormat,
     samples: Samples,
 ) -> Result<Samples, RectError<B::Error>>
@@ -62,8 +62,8 @@ pub(crate) fn read_plane<B: ByteReader>(
 {
     let rect = place.rect;
     let bottom = rect.y.saturating_add(rect.h);
-    let rows = Rows::of(place.layout, place.level, format, bottom);
-    let mut reading = Reading::new(alloc, samples, rows);
+    let rows = RowLayout::of(place.layout, place.level, format, bottom);
+    let mut reading = RectReader::new(alloc, samples, rows);
     reading.reserve(rect, format.channels)?;
     reading.read_place(reader, format, place)?;
     Ok(reading.samples)
@@ -74,10 +74,10 @@ pub(crate) fn read_plane<B: ByteReader>(
 pub(crate) fn read_chunky<B: ByteReader>(
     alloc: Global,
     reader: &mut B,
-    place: &Place<'_>,
+    place: &PlaneRect<'_>,
     format: &TexelFormat,
-    room: Texels,
-) -> Result<Texels, RectError<B::Error>>
+    room: RectSamples,
+) -> Result<RectSamples, RectError<B::Error>>
     requires none { samples_of room ≡ [] }
     requires format { IsFormatOf place.now.layout.now.big
         (plane_in place.now.layout.now place.now.level place.now.plane).shape format.now }
@@ -121,7 +121,7 @@ fn blank(alloc: Global, rect: Rect, channels: u32) -> Result<Vec<u16>, AllocErro
 pub(crate) fn read_planes<B: ByteReader>(
     alloc: Global,
     reader: &mut B,
-    place: &Place<'_>,
+    place: &PlaneRect<'_>,
 ) -> Result<Vec<u16>, RectError<B::Error>>
     requires planar { (level_in place.now.layout.now place.now.level).shape.planes ≢ 1 }
     ensures count { IfOk result (λ samples. length samples.items ≡ place.now.rect.w
@@ -145,7 +145,7 @@ pub(crate) fn read_planes<B: ByteReader>(
     let planes = place.layout.planes(place.level);
     let mut values = blank(alloc, place.rect, planes)?;
     'each: for plane in 0..planes {
-        let alone = Place {
+        let alone = PlaneRect {
             layout: place.layout,
             level: place.level,
             plane,

@@ -11,16 +11,16 @@ ghost use Rattle.tile_layout.specs.FormatOf.{IsFormatOf};
 ghost use Rattle.tile_layout.specs.Blocks.{HoldsBlocks};
 ghost use Rattle.rect_read.specs.Samples.{samples_at};
 ghost use Rattle.rect_read.specs.Taken.{taken, FitsSamples, KeepsOthers};
-ghost use Rattle.rect_read.specs.Texels.{samples_of};
+ghost use Rattle.rect_read.specs.RectSamples.{samples_of};
 ghost use Rattle.piece_samples.specs.Unpacked.{KeepsDepth};
 ghost use Rattle.rect_read.specs.Window.{AreWindows};
 ghost use Rattle.rect_read.specs.RectRead.{LeavesReader};
 ghost use Rattle.piece_samples.specs.Beyond.{IsFilled, IsPlaneBeyond};
 ghost use Rattle.rect_read.specs.Zeros.{AddsTexel, AddsTexels, AddsZeros, LiesBeyond};
 
-use crate::place::Place;
+use crate::place::PlaneRect;
 use crate::rect_error::RectError;
-use crate::rows::Rows;
+use crate::rows::RowLayout;
 use crate::run::{Run, read_run};
 use crate::samples::Samples;
 use crate::window::{Window, ready};
@@ -35,11 +35,11 @@ pub(crate) const MAX_AHEAD: u64 = 256 * 1024;
 
 /// The samples read so far, and a window for each piece of a row.
 #[derive(Drop)]
-pub(crate) struct Reading {
+pub(crate) struct RectReader {
     pub(crate) samples: Samples,
     pub(crate) windows: Vec<Window>,
     /// The rows to read.
-    rows: Rows,
+    rows: RowLayout,
 }
 
 /// The index of the window for a piece of row y: 0 at the start of a row, otherwise the next one.
@@ -54,13 +54,13 @@ fn window_of(row: &mut u32, y: u32, next: usize) -> usize
     }
 }
 
-impl Reading {
+impl RectReader {
     /// A reading that continues after the samples already taken.
-    pub(crate) fn new(alloc: Global, samples: Samples, rows: Rows) -> Reading
+    pub(crate) fn new(alloc: Global, samples: Samples, rows: RowLayout) -> RectReader
         ensures samples { result.samples ≡ samples }
         ensures windows { result.windows.items ≡ [] }
     {
-        Reading {
+        RectReader {
             samples,
             windows: Vec::new(alloc),
             rows,
@@ -211,7 +211,7 @@ impl Reading {
         &mut self,
         reader: &mut B,
         format: &TexelFormat,
-        place: &Place<'_>,
+        place: &PlaneRect<'_>,
     ) -> Result<(), RectError<B::Error>>
         requires samples { FitsSamples self.old.samples format.now }
         requires format { IsFormatOf place.now.layout.now.big

@@ -9,14 +9,14 @@ ghost use Rattle.tile_layout.specs.Kept.{stored_count, level_in};
 ghost use Rattle.tile_layout.specs.Pieces.{LiesOnLevel};
 ghost use Rattle.tile_layout.specs.Texel.{AreTexelsOn, FitDepth};
 ghost use Rattle.rect_read.specs.RectRead.{LeavesReader};
-ghost use Rattle.rect_read.specs.Texels.{are_wide, samples_of, AreBytes};
+ghost use Rattle.rect_read.specs.RectSamples.{are_wide, samples_of, AreBytes};
 ghost use Rattle.piece_samples.specs.Beyond.{CountAsZero, IsFilled, IsAllBeyond};
 ghost use Rattle.piece_samples.specs.Unpacked.{is_wide};
 
-use crate::place::Place;
+use crate::place::PlaneRect;
 use crate::planes::{read_chunky, read_planes};
 use crate::rect_error::RectError;
-use crate::texels::{Texels, narrowed};
+use crate::texels::{RectSamples, narrowed};
 use std::alloc::Global;
 use tiff_entries::ByteReader;
 use tiff_format::Rect;
@@ -52,7 +52,7 @@ pub fn read_rect<B: ByteReader>(
     ensures reader { LeavesReader B.keeps B.refuses reader.old reader.new result }
 {
     let planes = layout.planes(level);
-    let place = Place {
+    let place = PlaneRect {
         layout,
         level,
         plane: 0,
@@ -60,7 +60,7 @@ pub fn read_rect<B: ByteReader>(
     };
     if planes == 1 {
         let format = layout.format(level, 0);
-        let room = Texels::Shorts(Vec::new(alloc));
+        let room = RectSamples::Shorts(Vec::new(alloc));
         let texels = read_chunky(alloc, reader, &place, &format, room)?;
         Ok(texels.into_shorts())
     } else {
@@ -89,7 +89,7 @@ pub fn read_texels<B: ByteReader>(
     layout: &Layout,
     level: u32,
     rect: Rect,
-) -> Result<Texels, RectError<B::Error>>
+) -> Result<RectSamples, RectError<B::Error>>
     requires stored { level < stored_count layout.now }
     requires inside { LiesOnLevel layout.now level rect }
     ensures wide { IfOk result (λ texels. are_wide texels ≡ is_wide (bit_depth_in layout.now)) }
@@ -110,7 +110,7 @@ pub fn read_texels<B: ByteReader>(
     ensures reader { LeavesReader B.keeps B.refuses reader.old reader.new result }
 {
     let planes = layout.planes(level);
-    let place = Place {
+    let place = PlaneRect {
         layout,
         level,
         plane: 0,
@@ -118,14 +118,14 @@ pub fn read_texels<B: ByteReader>(
     };
     let format = layout.format(level, 0);
     if planes == 1 && are_bytes(&format) {
-        let room = Texels::Bytes(Vec::new(alloc));
+        let room = RectSamples::Bytes(Vec::new(alloc));
         return read_chunky(alloc, reader, &place, &format, room);
     }
     let samples = read_rect(alloc, reader, layout, level, rect)?;
     if format.depth == BYTE_DEPTH {
         let bytes = narrowed(alloc, &samples)?;
-        Ok(Texels::Bytes(bytes))
+        Ok(RectSamples::Bytes(bytes))
     } else {
-        Ok(Texels::Shorts(samples))
+        Ok(RectSamples::Shorts(samples))
     }
 }

@@ -7,7 +7,7 @@ use tile_layout::{Layout, TexelFormat};
 
 /// The rows to read, and how they lie in their strips or tiles.
 #[derive(Clone, Copy, Debug)]
-pub(crate) struct Rows {
+pub(crate) struct RowLayout {
     /// The row after the last one.
     bottom: u32,
     /// The number of rows per strip or tile.
@@ -28,13 +28,13 @@ pub(crate) struct RowsBehind {
     pub(crate) stride: u64,
 }
 
-impl Rows {
+impl RowLayout {
     /// The rows of a stored level above row `bottom`.
-    pub(crate) fn of(layout: &Layout, level: u32, format: &TexelFormat, bottom: u32) -> Rows
+    pub(crate) fn of(layout: &Layout, level: u32, format: &TexelFormat, bottom: u32) -> RowLayout
         requires { level < stored_count layout.now }
     {
         let width = u64::from(layout.block_width(level));
-        Rows {
+        RowLayout {
             bottom,
             in_block: layout.block_rows(level),
             stride: width.saturating_mul(format.texel_bytes as u64),

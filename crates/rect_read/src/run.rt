@@ -12,23 +12,23 @@ ghost use Rattle.tile_layout.specs.WholeRows.{StandsWhole};
 ghost use Rattle.rect_read.specs.RectRead.{LeavesReader};
 ghost use Rattle.rect_read.specs.Run.{AppendsRun, AppendsValues, StandSideBySide};
 ghost use Rattle.rect_read.specs.Taken.{taken, FitsSamples, KeepsOthers};
-ghost use Rattle.rect_read.specs.Texels.{samples_of};
+ghost use Rattle.rect_read.specs.RectSamples.{samples_of};
 ghost use Rattle.piece_samples.specs.Unpacked.{KeepsDepth};
 ghost use Rattle.rect_read.specs.Window.{IsWindow};
 
-use crate::place::Place;
+use crate::place::PlaneRect;
 use crate::reading::MAX_AHEAD;
 use crate::rect_error::RectError;
 use crate::rows::RowsBehind;
 use crate::samples::Samples;
-use crate::texels::Texels;
+use crate::texels::RectSamples;
 use crate::window::Window;
 use piece_samples::Span;
 use std::alloc::AllocError;
 use tiff_entries::ByteReader;
 use tile_layout::TexelFormat;
 
-/// Texels that follow one another in the file: `texels` of them, from `at` on.
+/// RectSamples that follow one another in the file: `texels` of them, from `at` on.
 #[derive(Clone, Copy, Debug)]
 pub(crate) struct Run {
     pub(crate) at: u64,
@@ -38,7 +38,7 @@ pub(crate) struct Run {
 impl Run {
     /// The texels of a rectangle as one run, if all its rows follow one another in the file, below
     /// length `len`.
-    pub(crate) fn of(place: &Place<'_>, format: &TexelFormat, len: u64) -> Option<Run>
+    pub(crate) fn of(place: &PlaneRect<'_>, format: &TexelFormat, len: u64) -> Option<Run>
         requires { IsFormatOf place.now.layout.now.big
             (plane_in place.now.layout.now place.now.level place.now.plane).shape format.now }
         ensures texels { IfSome result (λ run.
@@ -133,7 +133,7 @@ fn read_part<B: ByteReader>(
         at: part.at,
         size: part.texels * format.texel_bytes,
     };
-    if let Texels::Bytes(bytes) = &mut samples.values {
+    if let RectSamples::Bytes(bytes) = &mut samples.values {
         return read_behind(reader, &span, bytes);
     }
     window.fill(reader, &span, &NO_ROWS, 0)?;

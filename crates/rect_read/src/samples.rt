@@ -8,11 +8,11 @@ ghost use Rattle.tiff_format.specs.Limits.{max_channels};
 ghost use Rattle.tiff_format.specs.Texel.{greatest_sample};
 ghost use Rattle.tile_layout.specs.Texel.{FitDepth};
 ghost use Rattle.rect_read.specs.Taken.{taken, FitsSamples, KeepsOthers};
-ghost use Rattle.rect_read.specs.Texels.{are_wide, samples_of};
-ghost use Rattle.rect_read.specs.declared.texels.Texels.TheVariants.{Shorts};
+ghost use Rattle.rect_read.specs.RectSamples.{are_wide, samples_of};
+ghost use Rattle.rect_read.specs.declared.texels.RectSamples.TheVariants.{Shorts};
 ghost use Rattle.piece_samples.specs.Unpacked.{unpacked, KeepsDepth};
 
-use crate::texels::Texels;
+use crate::texels::RectSamples;
 use piece_samples::{Places, unpack_among, unpack_samples};
 use std::alloc::AllocError;
 use tile_layout::TexelFormat;
@@ -21,7 +21,7 @@ use tile_layout::TexelFormat;
 /// those of the other planes.
 #[derive(Drop)]
 pub(crate) struct Samples {
-    pub(crate) values: Texels,
+    pub(crate) values: RectSamples,
     pub(crate) places: Places,
 }
 
@@ -77,7 +77,7 @@ fn ready(values: &mut Vec<u16>, count: usize) -> Result<(), AllocError>
 
 impl Samples {
     /// Collects whole texels, all samples of a texel together.
-    pub(crate) fn of_texels(values: Texels) -> Samples
+    pub(crate) fn of_texels(values: RectSamples) -> Samples
         ensures same { result.values ≡ values }
         ensures taken { taken result ≡ samples_of values }
         ensures one { result.places.step ≡ 1 }
@@ -103,7 +103,7 @@ impl Samples {
         ensures first { result.places.first ≡ plane }
     {
         Samples {
-            values: Texels::Shorts(values),
+            values: RectSamples::Shorts(values),
             places: Places {
                 step: planes as usize,
                 first: plane as usize,
@@ -139,11 +139,11 @@ impl Samples {
     {
         let places = self.places.more(count)?;
         match &mut self.values {
-            Texels::Shorts(values) => {
+            RectSamples::Shorts(values) => {
                 ready(values, places.done * places.step)?;
                 unpack_among(format, bytes, count, &self.places, values);
             }
-            Texels::Bytes(_) => unreachable!(),
+            RectSamples::Bytes(_) => unreachable!(),
         }
         self.places = places;
         Ok(())
@@ -182,11 +182,11 @@ impl Samples {
     {
         let places = self.places.more(1)?;
         match &mut self.values {
-            Texels::Shorts(values) => {
+            RectSamples::Shorts(values) => {
                 ready(values, places.done * places.step)?;
                 values[self.places.done * self.places.step + self.places.first] = 0;
             }
-            Texels::Bytes(_) => unreachable!(),
+            RectSamples::Bytes(_) => unreachable!(),
         }
         self.places = places;
         Ok(())

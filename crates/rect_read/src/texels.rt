@@ -5,7 +5,7 @@ ghost use Rattle.std.specs.List.{range_with_len};
 ghost use Rattle.tiff_format.specs.Block.{sample_bytes};
 ghost use Rattle.tile_layout.specs.Texel.{FitDepth};
 ghost use Rattle.piece_samples.specs.Unpacked.{unpacked, KeepsDepth};
-ghost use Rattle.rect_read.specs.Texels.{are_wide, samples_of, FitsTexels};
+ghost use Rattle.rect_read.specs.RectSamples.{are_wide, samples_of, FitsTexels};
 
 use crate::samples::push_samples;
 use std::alloc::{AllocError, Global};
@@ -13,19 +13,19 @@ use tile_layout::TexelFormat;
 
 /// Samples of texels, stored in the size that they need.
 #[derive(Debug, Drop)]
-pub enum Texels {
+pub enum RectSamples {
     /// One byte each, 0 to 255: from an 8-bit file.
     Bytes(Vec<u8>),
     /// Two bytes each, 0 to 65535: from a 16-bit file.
     Shorts(Vec<u16>),
 }
 
-impl Texels {
+impl RectSamples {
     /// The allocator of the samples.
     pub(crate) fn allocator(&self) -> Global {
         match self {
-            Texels::Bytes(values) => *values.allocator(),
-            Texels::Shorts(values) => *values.allocator(),
+            RectSamples::Bytes(values) => *values.allocator(),
+            RectSamples::Shorts(values) => *values.allocator(),
         }
     }
 
@@ -35,8 +35,8 @@ impl Texels {
         ensures wide { are_wide self.new ≡ are_wide self.old }
     {
         match self {
-            Texels::Bytes(values) => values.reserve(count),
-            Texels::Shorts(values) => values.reserve(count),
+            RectSamples::Bytes(values) => values.reserve(count),
+            RectSamples::Shorts(values) => values.reserve(count),
         }
     }
 
@@ -56,8 +56,8 @@ impl Texels {
         ensures wide { are_wide self.new ≡ are_wide self.old }
     {
         match self {
-            Texels::Bytes(values) => values.extend_from_slice(bytes),
-            Texels::Shorts(values) => push_samples(values, format, bytes, count),
+            RectSamples::Bytes(values) => values.extend_from_slice(bytes),
+            RectSamples::Shorts(values) => push_samples(values, format, bytes, count),
         }
     }
 
@@ -69,11 +69,11 @@ impl Texels {
         ensures wide { are_wide self.new ≡ are_wide self.old }
     {
         match self {
-            Texels::Bytes(values) => {
+            RectSamples::Bytes(values) => {
                 values.reserve(n)?;
                 values.resize(values.len() + n, 0)?;
             }
-            Texels::Shorts(values) => {
+            RectSamples::Shorts(values) => {
                 values.reserve(n)?;
                 values.resize(values.len() + n, 0)?;
             }
@@ -87,8 +87,8 @@ impl Texels {
         ensures { result.items ≡ samples_of self }
     {
         match self {
-            Texels::Shorts(values) => values,
-            Texels::Bytes(_) => unreachable!(),
+            RectSamples::Shorts(values) => values,
+            RectSamples::Bytes(_) => unreachable!(),
         }
     }
 }

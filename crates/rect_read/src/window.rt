@@ -12,7 +12,7 @@ use piece_samples::Span;
 use std::alloc::{AllocError, Global};
 use tiff_entries::ByteReader;
 
-/// The most bytes between the pieces of two rows that are still read together. Reading that many
+/// The most bytes between the pieces of two rows that are still read together. RectReader that many
 /// costs about as much as another call.
 pub const MAX_GAP: u64 = 4096;
 

@@ -9,14 +9,14 @@ use Rattle.command_line.specs.Invocation.{Asked}
 use Rattle.request_lang.specs.Grammar.{Parsed, list_of, max_list_bytes}
 use Rattle.request_lang.specs.declared.cause.BadList.{BadList}
 use Rattle.request_lang.specs.declared.request.Request.{Request}
-use Rattle.render_run.specs.declared.prepare.Ending.{Ending}
-use Rattle.render_run.specs.declared.prepare.Ending.TheVariants.{BadWords, FolderFault}
-use Rattle.render_run.specs.declared.prepare.Ending.TheVariants.{TooManyFiles, ListFault, NotAList}
-use Rattle.render_run.specs.declared.prepare.Ending.TheVariants.{NoMemory}
+use Rattle.render_run.specs.declared.prepare.RunError.{RunError}
+use Rattle.render_run.specs.declared.prepare.RunError.TheVariants.{BadWords, FolderFault}
+use Rattle.render_run.specs.declared.prepare.RunError.TheVariants.{TooManyFiles, ListFault, NotAList}
+use Rattle.render_run.specs.declared.prepare.RunError.TheVariants.{NoMemory}
 use Rattle.render_run.specs.Status.{input_fault}
 use Rattle.render_run.specs.Around.{Around, FeedState}
 use Rattle.render_run.specs.ListRead.{FeedSays}
-use Rattle.render_run.specs.Ending.{Ends, path_in, status_of}
+use Rattle.render_run.specs.RunError.{Ends, path_in, status_of}
 use Rattle.render_run.specs.Run.{inputs_in, IsAnswered, Runs}
 use Rattle.render_run.specs.Complete.{StaysAt, IsCalm, HasAList, NoneFails, Completes}
 
@@ -64,7 +64,7 @@ says_list asked old new bad has said = elim (cases_lt max_list_bytes (length sai
 
 module _ (files : Files) (asked : Option Asked) (old new : Around) (tells : IsTrue files.tells)
     (has : HasAList asked old.feed) (calm : IsCalm old new) where
-  no_cause : (ending : Ending)
+  no_cause : (ending : RunError)
       → Ends files (path_in asked) (inputs_in old) (inputs_in new) ending
       → status_of ending ≤ input_fault → ⊥
   no_cause BadWords (inl c) low = has_path asked has.words c.0.0

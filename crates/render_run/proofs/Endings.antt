@@ -3,20 +3,20 @@ use Rattle.std.proofs.Common.{◌≤◌, inl, inr, ℕ, Option, sym, arith}
 use Rattle.command_line.specs.Invocation.{Asked}
 use Rattle.std.specs.Prelude.{IsTrue}
 use Rattle.tex_world.specs.World.{Files}
-use Rattle.render_run.specs.declared.prepare.Ending.{Ending}
-use Rattle.render_run.specs.declared.prepare.Ending.TheVariants.{BadWords, FolderFault}
-use Rattle.render_run.specs.declared.prepare.Ending.TheVariants.{TooManyFiles, ListFault, NotAList}
-use Rattle.render_run.specs.declared.prepare.Ending.TheVariants.{NoMemory}
+use Rattle.render_run.specs.declared.prepare.RunError.{RunError}
+use Rattle.render_run.specs.declared.prepare.RunError.TheVariants.{BadWords, FolderFault}
+use Rattle.render_run.specs.declared.prepare.RunError.TheVariants.{TooManyFiles, ListFault, NotAList}
+use Rattle.render_run.specs.declared.prepare.RunError.TheVariants.{NoMemory}
 use Rattle.render_run.specs.Status.{bad_words, input_fault}
 use Rattle.render_run.specs.Around.{Around}
-use Rattle.render_run.specs.Ending.{IsEnded, path_in, status_of, ending_text}
+use Rattle.render_run.specs.RunError.{IsEnded, path_in, status_of, ending_text}
 use Rattle.render_run.specs.Written.{StatusWritten, LacksMemory, EndedAs}
 use Rattle.render_run.specs.Run.{inputs_in, GivesTapsBack, Runs}
 
 module _ (files : Files) (asked : Option Asked) (old new : Around) (ends : ℕ)
     (taps : GivesTapsBack old.folder new.folder) where
   -- the text was written with its status, or the sink failed
-  written : (ending : Ending) → IsEnded files (path_in asked) (inputs_in old) (inputs_in new) ending
+  written : (ending : RunError) → IsEnded files (path_in asked) (inputs_in old) (inputs_in new) ending
       → bad_words ≤ status_of ending → status_of ending ≤ input_fault
       → StatusWritten (ending_text ending) (status_of ending) old.sink new.sink ends
       → Runs files asked old new ends
@@ -58,7 +58,7 @@ module _ (files : Files) (asked : Option Asked) (old new : Around) (ends : ℕ)
   }
 
   -- each ending
-  pub ended_runs : (ending : Ending) → IsEnded files (path_in asked) (inputs_in old) (inputs_in new) ending
+  pub ended_runs : (ending : RunError) → IsEnded files (path_in asked) (inputs_in old) (inputs_in new) ending
       → EndedAs ending old.sink new.sink ends → Runs files asked old new ends
   ended_runs NoMemory ended lacks = lacking ended.mark lacks
   ended_runs (NotAList bad) ended (inl text) =

@@ -6,7 +6,7 @@ use Rattle.std.proofs.lemmas.List.{append-nil}
 use Rattle.tex_world.specs.Counts.{RisesByAtLeast, last_count}
 use Rattle.tex_world.specs.World.{Files}
 use Rattle.tex_world.specs.Folder.{FolderState}
-use Rattle.command_line.specs.declared.options.Options.{Options}
+use Rattle.command_line.specs.declared.options.RunOptions.{RunOptions}
 use Rattle.command_line.specs.Invocation.{Asked}
 use Rattle.request_lang.specs.declared.request.Request.{Request}
 use Rattle.render_run.specs.declared.answering.Unfinished.{Unfinished}
@@ -18,7 +18,7 @@ use Rattle.answer_page.specs.Page.{SinkState}
 use Rattle.render_run.specs.Around.{source_of_folder, setup_of, progress_of, terms_for}
 use Rattle.render_run.specs.Around.{around_of, inputs_of, no_sight}
 use Rattle.render_run.specs.Crew.{MakesMore, TakesBack}
-use Rattle.render_run.specs.Ending.{HasOptions, IsPrepared, path_in}
+use Rattle.render_run.specs.RunError.{HasOptions, IsPrepared, path_in}
 use Rattle.render_run.specs.Run.{Answers, Runs, MakesTaps, GivesTapsBack, IsListed}
 use Rattle.render_run.specs.Written.{KeepsTaps, Leaves, LeavesTaps, list_status}
 
@@ -159,7 +159,7 @@ no_taps folder = record {
 
 -- ---- the top call
 
-module _ (files : Files) (asked : Option Asked) (options : Options) (f0 f1 f2 : FolderState)
+module _ (files : Files) (asked : Option Asked) (options : RunOptions) (f0 f1 f2 : FolderState)
     (i0 i1 : FeedState) (s0 s1 : SinkState) (requests : List Request)
     (has : HasOptions asked options)
     (prepared : IsPrepared (path_in asked) (inputs_of f0 i0) (inputs_of f1 i1) requests)

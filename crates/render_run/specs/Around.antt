@@ -6,7 +6,7 @@ use Rattle.answer_page.specs.Page.{SinkState}
 use Rattle.tex_world.specs.Tap.{TapState}
 use Rattle.tex_world.specs.Folder.{FolderState}
 use Rattle.tiff_format.specs.declared.cut.Cut.{Cut}
-use Rattle.command_line.specs.declared.options.Options.{Options}
+use Rattle.command_line.specs.declared.options.RunOptions.{RunOptions}
 use Rattle.tile_store.specs.Tile.{CachedTile}
 use Rattle.shard_gate.specs.Gate.{GateState}
 use Rattle.tile_source.specs.Pass.{PassState}
@@ -85,7 +85,7 @@ pub record Sight : Type 0 where
   pub source : SourceState
 
 -- the terms that options ask for; the budget is divided among the shards
-abbrev pub terms_for : Options → Terms
+abbrev pub terms_for : RunOptions → Terms
 terms_for o = record {
   cut = o.cut;
   shards = o.shards;

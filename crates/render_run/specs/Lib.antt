@@ -10,7 +10,7 @@ pub mod Held
 pub mod Counted
 pub mod Tallied
 pub mod ListRead
-pub mod Ending
+pub mod RunError
 pub mod Run
 pub mod Complete
 pub mod Pins

@@ -6,10 +6,10 @@ use Rattle.tex_world.specs.Counts.{last_count, Rises, RisesByAtLeast}
 use Rattle.tex_world.specs.World.{Files}
 use Rattle.tex_world.specs.Folder.{FolderState}
 use Rattle.tex_world.specs.Stream.{Appends, AppendsPart}
-use Rattle.command_line.specs.declared.options.Options.{Options}
+use Rattle.command_line.specs.declared.options.RunOptions.{RunOptions}
 use Rattle.command_line.specs.Invocation.{Asked}
 use Rattle.request_lang.specs.declared.request.Request.{Request}
-use Rattle.render_run.specs.declared.prepare.Ending.{Ending}
+use Rattle.render_run.specs.declared.prepare.RunError.{RunError}
 use Rattle.render_run.specs.Status as status
 use Rattle.render_run.specs.Around.{SourceState, Around, Inputs, Progress, Setup, inputs_of}
 use Rattle.render_run.specs.Around.{setup_of, progress_of, source_of_folder, terms_for}
@@ -24,8 +24,8 @@ use Rattle.render_run.specs.Counted.{AreCountsOf, TellTheirPins, no_counts}
 use Rattle.request_lang.specs.declared.closing.Counts.{Counts}
 use Rattle.request_lang.specs.Closing.{closing_lines}
 use Rattle.image_cache.specs.Invalid.{RisesBy}
-use Rattle.render_run.specs.Ending.{HasOptions, path_in, IsPrepared, IsEnded, status_of}
-use Rattle.render_run.specs.Ending.{ending_text}
+use Rattle.render_run.specs.RunError.{HasOptions, path_in, IsPrepared, IsEnded, status_of}
+use Rattle.render_run.specs.RunError.{ending_text}
 
 -- ---- the lines
 
@@ -117,7 +117,7 @@ abbrev pub progress_in : Around → Progress
 progress_in around = progress_of (source_of_folder around.folder) around.sink
 
 -- what a list is answered from: the files of the folder, under these options
-abbrev pub setup_in : Files → Around → Options → Setup
+abbrev pub setup_in : Files → Around → RunOptions → Setup
 setup_in files around options =
     setup_of files around.folder (terms_for options) options.workers
 
@@ -128,7 +128,7 @@ MakesTaps workers old new = RisesBy workers old.made new.made
 -- The folder at the path was entered, the feed was read to its end, and its bytes are a list of
 -- these requests, to be answered under the requested options.
 pub record IsListed (asked : Option Asked) (old new : Around) : Type 0 where
-  pub options : Options
+  pub options : RunOptions
   pub asked_for : HasOptions asked options
   pub requests : List Request
   pub prepared : IsPrepared (path_in asked) (inputs_in old) (inputs_in new) requests
@@ -159,14 +159,14 @@ pub record ListRounds (files : Files) (asked : Option Asked) (old new : Around) 
 -- No list was answered: the ending has its cause, and its text was written.
 pub record Stops (files : Files) (path : Option (List ℕ)) (old new : Around) (ends : ℕ)
     : Type 0 where
-  pub ending : Ending
+  pub ending : RunError
   pub of_status : status_of ending ≡ ends
   pub ended : IsEnded files path (inputs_in old) (inputs_in new) ending
   pub written : Appends (ending_text ending) old.sink.holds new.sink.holds
 
 -- A first part of the text of an ending was written, and the ending has its cause.
 pub record StopsPart (files : Files) (path : Option (List ℕ)) (old new : Around) : Type 0 where
-  pub ending : Ending
+  pub ending : RunError
   pub ended : IsEnded files path (inputs_in old) (inputs_in new) ending
   pub part : AppendsPart (ending_text ending) old.sink.holds new.sink.holds
 

@@ -3,8 +3,8 @@ use Rattle.std.specs.Prelude.{◌≡◌, ◌⊎◌, ℕ, ◌≤◌, Bool, List, 
 use Rattle.std.specs.Prelude.{Result, Ok, Err}
 use Rattle.tex_world.specs.Folder.{FolderState}
 use Rattle.tex_world.specs.Stream.{Appends}
-use Rattle.render_run.specs.declared.prepare.Ending.{Ending}
-use Rattle.render_run.specs.declared.prepare.Ending.TheVariants as ending
+use Rattle.render_run.specs.declared.prepare.RunError.{RunError}
+use Rattle.render_run.specs.declared.prepare.RunError.TheVariants as ending
 use Rattle.render_run.specs.Status as status
 use Rattle.request_lang.specs.declared.request.Request.{Request}
 use Rattle.render_run.specs.declared.answering.Unfinished.{Unfinished}
@@ -14,7 +14,7 @@ use Rattle.render_run.specs.Around.{Setup, Sight, Progress}
 use Rattle.answer_page.specs.Page.{SinkState, PutsPart}
 use Rattle.render_run.specs.Run.{Finishes, PartWritten, RoundsWritten, GivesTapsBack}
 use Rattle.render_run.specs.Answering.{SoFar}
-use Rattle.render_run.specs.Ending.{status_of, ending_text}
+use Rattle.render_run.specs.RunError.{status_of, ending_text}
 
 -- ---- an ending
 
@@ -41,7 +41,7 @@ StatusWritten text wanted old new ends =
 
 -- The text of an ending was written, with its status. Out of memory has no text, and nothing is
 -- written; nor is it if memory runs out for the text about an invalid list.
-abbrev pub EndedAs : Ending → SinkState → SinkState → ℕ → Type 0
+abbrev pub EndedAs : RunError → SinkState → SinkState → ℕ → Type 0
 EndedAs ending.NoMemory old new ends = LacksMemory old new ends
 EndedAs (ending.NotAList bad) old new ends =
     StatusWritten (ending_text (ending.NotAList bad)) status.bad_list old new ends

@@ -6,21 +6,21 @@ ghost use Rattle.std.specs.List.{All};
 ghost use Rattle.render_run.specs.Question.{MayAsk};
 ghost use Rattle.render_run.specs.Around.{feed_state, inputs_of};
 ghost use Rattle.render_run.specs.ListRead.{FeedSays};
-ghost use Rattle.command_line.specs.Options.{IsInRange};
-ghost use Rattle.render_run.specs.Ending.{asked_by, path_in, HasOptions, WordsCause};
-ghost use Rattle.render_run.specs.Ending.{IsEntered, EnterEnds, ListEnds};
-ghost use Rattle.render_run.specs.Ending.{IsPrepared, IsEnded, HasNoMark, MarksAs};
+ghost use Rattle.command_line.specs.RunOptions.{IsInRange};
+ghost use Rattle.render_run.specs.RunError.{asked_by, path_in, HasOptions, WordsCause};
+ghost use Rattle.render_run.specs.RunError.{IsEntered, EnterEnds, ListEnds};
+ghost use Rattle.render_run.specs.RunError.{IsPrepared, IsEnded, HasNoMark, MarksAs};
 ghost use Rattle.render_run.specs.Written.{KeepsTaps};
 
 use crate::list::{ListError, read_list};
-use command_line::{Invocation, Options, WordsError, invocation_of};
+use command_line::{Invocation, RunOptions, WordsError, invocation_of};
 use request_lang::{BadList, ParseError, Request, parse};
 use std::alloc::Global;
 use tex_world::{EnterError, Feed, Folder};
 
 /// Why no list is answered.
 #[derive(Clone, Copy, Debug, PartialEq, Eq)]
-pub(crate) enum Ending {
+pub(crate) enum RunError {
     /// The arguments are not those of the command.
     BadWords,
     /// The folder failed.
@@ -38,7 +38,7 @@ pub(crate) enum Ending {
 /// What to answer: the requests of a list, under the options in the arguments.
 #[derive(Drop)]
 pub(crate) struct Prepared {
-    pub(crate) options: Options,
+    pub(crate) options: RunOptions,
     pub(crate) requests: Vec<Request>,
 }
 
@@ -58,7 +58,7 @@ fn enter_folder<F: Folder>(
     alloc: Global,
     words: &[String],
     folder: &mut F,
-) -> Result<Options, Ending>
+) -> Result<RunOptions, RunError>
     ensures entered { OnOk result
         (IsEntered (path_in (asked_by words.now)) (F.state folder.new)) }
     ensures options { IfOk result (HasOptions (asked_by words.now)) }
@@ -71,19 +71,19 @@ fn enter_folder<F: Folder>(
 {
     let asked = match invocation(alloc, words) {
         Ok(asked) => asked,
-        Err(WordsError::Bad) => return Err(Ending::BadWords),
-        Err(WordsError::NoMemory) => return Err(Ending::NoMemory),
+        Err(WordsError::Bad) => return Err(RunError::BadWords),
+        Err(WordsError::NoMemory) => return Err(RunError::NoMemory),
     };
     match folder.enter(alloc, asked.folder) {
         Ok(()) => Ok(asked.options),
-        Err(EnterError::Failed) => Err(Ending::FolderFault),
-        Err(EnterError::TooMany) => Err(Ending::TooManyFiles),
-        Err(EnterError::NoMemory) => Err(Ending::NoMemory),
+        Err(EnterError::Failed) => Err(RunError::FolderFault),
+        Err(EnterError::TooMany) => Err(RunError::TooManyFiles),
+        Err(EnterError::NoMemory) => Err(RunError::NoMemory),
     }
 }
 
 /// Reads and checks the requests of the list.
-fn read_requests<I: Feed>(alloc: Global, feed: &mut I) -> Result<Vec<Request>, Ending>
+fn read_requests<I: Feed>(alloc: Global, feed: &mut I) -> Result<Vec<Request>, RunError>
     ensures asked { IfOk result (λ requests. All MayAsk requests.items) }
     ensures few { IfOk result (λ requests. length requests.items ≤ max_requests) }
     ensures listed { IfOk result (λ requests. FeedSays (Ok requests.items)
@@ -93,13 +93,13 @@ fn read_requests<I: Feed>(alloc: Global, feed: &mut I) -> Result<Vec<Request>, E
 {
     let bytes = match read_list(alloc, feed) {
         Ok(bytes) => bytes,
-        Err(ListError::Failed) => return Err(Ending::ListFault),
-        Err(ListError::NoMemory) => return Err(Ending::NoMemory),
+        Err(ListError::Failed) => return Err(RunError::ListFault),
+        Err(ListError::NoMemory) => return Err(RunError::NoMemory),
     };
     match parse(alloc, &bytes) {
         Ok(requests) => Ok(requests),
-        Err(ParseError::Bad { line, why }) => Err(Ending::NotAList(BadList { line, why })),
-        Err(ParseError::NoMemory) => Err(Ending::NoMemory),
+        Err(ParseError::Bad { line, why }) => Err(RunError::NotAList(BadList { line, why })),
+        Err(ParseError::NoMemory) => Err(RunError::NoMemory),
     }
 }
 
@@ -109,7 +109,7 @@ pub(crate) fn prepare<F: Folder, I: Feed>(
     words: &[String],
     folder: &mut F,
     feed: &mut I,
-) -> Result<Prepared, Ending>
+) -> Result<Prepared, RunError>
     ensures prepared { IfOk result (λ p. IsPrepared (path_in (asked_by words.now))
         (inputs_of (F.state folder.old) (feed_state I.faults I.left feed.old))
         (inputs_of (F.state folder.new) (feed_state I.faults I.left feed.new)) p.requests.items) }

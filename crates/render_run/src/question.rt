@@ -90,14 +90,14 @@ impl Task {
 
 /// A name without a UDIM mark, and the number of its file.
 #[derive(Clone, Copy)]
-pub(crate) struct Known<'a> {
+pub(crate) struct KnownName<'a> {
     pub(crate) name: &'a str,
     pub(crate) file: u32,
 }
 
-impl<'a> Known<'a> {
+impl<'a> KnownName<'a> {
     /// The name of a lookup that was given to a worker, if its own file is asked.
-    fn of<F: Folder>(_folder: &F, request: &'a Request, task: &Task) -> Option<Known<'a>>
+    fn of<F: Folder>(_folder: &F, request: &'a Request, task: &Task) -> Option<KnownName<'a>>
         requires value { spec.IsGivenOf (F.state _folder.now).number_of request.now task.now }
         requires given { MayBeGiven F.W.files (F.state _folder.now).size task.now }
         ensures { IfSome result (λ k. IsKnown F.W.files (F.state _folder.now) k.name.now k.file) }
@@ -106,19 +106,19 @@ impl<'a> Known<'a> {
             return None;
         };
         match request {
-            Request::Tex { name, .. } => Some(Known::named(name, file)),
-            Request::Texd { name, .. } => Some(Known::named(name, file)),
+            Request::Tex { name, .. } => Some(KnownName::named(name, file)),
+            Request::Texd { name, .. } => Some(KnownName::named(name, file)),
             _ => None,
         }
     }
 
     /// A name and the number of its file.
-    fn named(name: &'a Name, file: u32) -> Known<'a>
+    fn named(name: &'a Name, file: u32) -> KnownName<'a>
         ensures name { result.name.now ≡ name.now }
         ensures file { result.file ≡ file }
     {
         let name = name.as_str();
-        Known { name, file }
+        KnownName { name, file }
     }
 
     /// What a worker is given for a request, if that is a lookup in the file of this name.
@@ -175,7 +175,7 @@ pub(crate) fn next_task<'a, F: Folder>(
     alloc: Global,
     folder: &F,
     request: &'a Request,
-    known: &mut Option<Known<'a>>,
+    known: &mut Option<KnownName<'a>>,
 ) -> Task
     requires entered { IsSome (F.state folder.now).entered }
     requires asked { spec.MayAsk request.now }
@@ -192,7 +192,7 @@ pub(crate) fn next_task<'a, F: Folder>(
         }
     }
     let task = Task::of(alloc, folder, request);
-    if let Some(found) = Known::of(folder, request, &task) {
+    if let Some(found) = KnownName::of(folder, request, &task) {
         *known = Some(found);
     }
     task

@@ -6,12 +6,12 @@ ghost use Rattle.std.specs.Arc.{arc_value};
 ghost use Rattle.std.specs.List.{All};
 ghost use Rattle.render_run.specs.Question.{MayAsk};
 ghost use Rattle.tex_world.specs.World.{max_files};
-ghost use Rattle.command_line.specs.Options.{IsInRange};
+ghost use Rattle.command_line.specs.RunOptions.{IsInRange};
 ghost use Rattle.image_cache.specs.Pass.{IsFirstPass};
 ghost use Rattle.render_run.specs.Around.{feed_state, around_of, progress_of};
 ghost use Rattle.answer_page.specs.Page.{sink_state, sink_of};
 ghost use Rattle.render_run.specs.Around.{source_of_folder, setup_of, terms_for, terms_of};
-ghost use Rattle.render_run.specs.Ending.{asked_by};
+ghost use Rattle.render_run.specs.RunError.{asked_by};
 ghost use Rattle.render_run.specs.Run.{MakesTaps, Runs};
 ghost use Rattle.render_run.specs.Complete.{HasAList, IsCalm, Completes};
 ghost use Rattle.render_run.specs.Written.{StatusWritten, EndedAs, Leaves, LeavesTaps, list_status};
@@ -19,11 +19,11 @@ ghost use Rattle.render_run.specs.Written.{StatusWritten, EndedAs, Leaves, Leave
 use crate::answering::{Unfinished, answer_list};
 use crate::crew::{crew_of, give_back};
 use crate::hook::Hook;
-use crate::prepare::{Ending, Prepared, prepare};
+use crate::prepare::{Prepared, RunError, prepare};
 use crate::round::Setting;
 use answer_page::Page;
-use command_line::Options;
-use image_cache::{Cache, NewError, Options as CacheOptions, Pass};
+use command_line::RunOptions;
+use image_cache::{Cache, NewError, Options, Pass};
 use request_lang::{BadList, bad_list_text};
 use std::alloc::Global;
 use std::sync::{Arc, Wait};
@@ -63,9 +63,9 @@ fn put_status<O: Sink>(out: &mut O, text: &[u8], status: u8) -> u8
 }
 
 /// Writes why the list is not valid.
-#[tactic(auto, unfolding(crate::specs::Ending::ending_text))]
+#[tactic(auto, unfolding(crate::specs::RunError::ending_text))]
 fn put_bad_list<O: Sink>(alloc: Global, out: &mut O, bad: BadList) -> u8
-    ensures { EndedAs (Ending.NotAList bad) (sink_of O.Sink out.old) (sink_of O.Sink out.new)
+    ensures { EndedAs (RunError.NotAList bad) (sink_of O.Sink out.old) (sink_of O.Sink out.new)
         result }
 {
     let mut text = Vec::new(alloc);
@@ -77,23 +77,23 @@ fn put_bad_list<O: Sink>(alloc: Global, out: &mut O, bad: BadList) -> u8
 
 /// Writes the text of an ending and returns its status, or that of an output that failed, or of out
 /// of memory.
-fn put_ending<O: Sink>(alloc: Global, out: &mut O, ending: Ending) -> u8
+fn put_ending<O: Sink>(alloc: Global, out: &mut O, ending: RunError) -> u8
     ensures { EndedAs ending (sink_of O.Sink out.old) (sink_of O.Sink out.new) result }
 {
     match ending {
-        Ending::BadWords => put_status(out, b"bad words\n", BAD_WORDS),
-        Ending::FolderFault => put_status(out, b"folder fault\n", INPUT_FAULT),
-        Ending::TooManyFiles => put_status(out, b"too many files\n", INPUT_FAULT),
-        Ending::ListFault => put_status(out, b"list fault\n", INPUT_FAULT),
-        Ending::NotAList(bad) => put_bad_list(alloc, out, bad),
-        Ending::NoMemory => NO_MEMORY,
+        RunError::BadWords => put_status(out, b"bad words\n", BAD_WORDS),
+        RunError::FolderFault => put_status(out, b"folder fault\n", INPUT_FAULT),
+        RunError::TooManyFiles => put_status(out, b"too many files\n", INPUT_FAULT),
+        RunError::ListFault => put_status(out, b"list fault\n", INPUT_FAULT),
+        RunError::NotAList(bad) => put_bad_list(alloc, out, bad),
+        RunError::NoMemory => NO_MEMORY,
     }
 }
 
 /// A shared cache for the files of a folder, with the given options, and its first pass.
 fn cache_of<T: Tap>(
     alloc: Global,
-    options: &Options,
+    options: &RunOptions,
     files: u32,
 ) -> Result<(Arc<Cache<T>>, Pass<T::W>), NoMemory>
     requires options { IsInRange options.now }
@@ -103,7 +103,7 @@ fn cache_of<T: Tap>(
         terms_of (arc_value made.0).gate ≡ terms_for options.now) }
     ensures pass { IfOk result (λ made. IsFirstPass (arc_value made.0) made.1) }
 {
-    let options = CacheOptions {
+    let options = Options {
         budget: options.budget,
         shards: options.shards,
         passes: options.workers,

@@ -7,20 +7,13 @@ use Rattle.tex_world.specs.Number.{number_in}
 use Rattle.sample_folder.specs.Sample.{sample_count, sample_names}
 use Rattle.tex_world.specs.Names.{name_at}
 use Rattle.tex_world.specs.Tap.{TapState}
+use Rattle.tex_world.specs.TapCounters.{counted}
 use Rattle.sample_folder.specs.declared.sample_folder.SampleFolder.{SampleFolder}
 use Rattle.sample_folder.specs.declared.sample_tap.SampleTap.{SampleTap}
 
 -- the counts of a tap, and its last answer of a newest generation
 abbrev pub sample_tap : SampleTap → TapState
-sample_tap tap = record {
-  faults = 0;
-  calls = tap.calls;
-  opens = tap.opens;
-  asks = tap.asks;
-  moves = 0;
-  lost = 0;
-  newest = tap.newest;
-}
+sample_tap tap = counted tap.counters
 
 -- the counts of the folder, which has all files once it is entered and none before
 abbrev pub sample_folder : SampleFolder → FolderState

@@ -6,40 +6,38 @@ ghost use Rattle.tex_world.specs.Counts.{Rises};
 ghost use Rattle.tex_world.specs.World.{IsFile, IsReal};
 ghost use Rattle.tex_world.specs.Tap.{IsNew, IsLeast, Opens, OpenCause, AfterOpen};
 ghost use Rattle.tex_world.specs.Tap.{AfterNewest, ReadCause, AfterRead, AreRows, HoldsRows};
+ghost use Rattle.tex_world.specs.TapCounters.{counted};
 ghost use Rattle.tex_world.specs.MemHandle.{handle_named};
-ghost use Rattle.sample_folder.specs.SampleFolder.{sample_tap};
 
 use crate::sample_files::SampleFiles;
 use std::alloc::Global;
 use tex_world::{
-    FIRST_GENERATION, Failed, FileTable, MemHandle, OpenError, ReadError, TableWorld, Tap, World,
-    fill, fill_rows,
+    FIRST_GENERATION, Failed, FileTable, MemHandle, OpenError, ReadError, TableWorld, Tap,
+    TapCounters, World, fill, fill_rows,
 };
 
 /// Reads the sample files. No call fails, and nothing is allocated.
 #[derive(Debug, Drop)]
 pub struct SampleTap {
-    calls: u64,
-    opens: u64,
-    asks: u64,
-    newest: (u32, u32),
+    counters: TapCounters,
+    ghost faultless: { (counted counters).faults ≡ 0 },
+    ghost unmoved: { (counted counters).moves ≡ 0 },
 }
 
 impl SampleTap {
     /// A tap without calls so far.
     pub(crate) fn new() -> Self
-        ensures { IsNew (sample_tap result) }
+        ensures { IsNew (counted result.counters) }
     {
         SampleTap {
-            calls: 0,
-            opens: 0,
-            asks: 0,
-            newest: (0, 0),
+            counters: TapCounters::new(),
         }
     }
 }
 
 impl Tap for SampleTap {
+    ghost use Rattle.sample_folder.specs.SampleFolder.{sample_tap};
+
     type W = TableWorld<SampleFiles>;
 
     type Handle = MemHandle<SampleFiles>;
@@ -61,12 +59,12 @@ impl Tap for SampleTap {
             (sample_tap self.old) (sample_tap self.new) result }
         ensures answers { IsOk result }
     {
-        self.calls = self.calls.saturating_add(1);
-        self.opens = self.opens.saturating_add(1);
-        match SampleFiles::len(file, FIRST_GENERATION) {
+        let opened = match SampleFiles::len(file, FIRST_GENERATION) {
             Some(len) => Ok(MemHandle::new(file, FIRST_GENERATION, len)),
             None => unreachable!(),
-        }
+        };
+        self.counters.count_open(least, &opened);
+        opened
     }
 
     fn newest(&mut self, file: u32, least: u32) -> Result<u32, Failed>
@@ -79,9 +77,7 @@ impl Tap for SampleTap {
         ensures counts { AfterNewest file (sample_tap self.old) (sample_tap self.new) result }
         ensures answers { IsOk result }
     {
-        self.calls = self.calls.saturating_add(1);
-        self.asks = self.asks.saturating_add(1);
-        self.newest = (file, FIRST_GENERATION);
+        self.counters.count_newest(file, Ok(FIRST_GENERATION));
         Ok(FIRST_GENERATION)
     }
 
@@ -104,7 +100,7 @@ impl Tap for SampleTap {
         ensures counts { AfterRead (sample_tap self.old) (sample_tap self.new) result }
         ensures answers { IsOk result }
     {
-        self.calls = self.calls.saturating_add(1);
+        self.counters.count_read(Ok(()));
         fill(h, at, buf);
         Ok(())
     }
@@ -129,7 +125,7 @@ impl Tap for SampleTap {
         ensures counts { AfterRead (sample_tap self.old) (sample_tap self.new) result }
         ensures answers { IsOk result }
     {
-        self.calls = self.calls.saturating_add(1);
+        self.counters.count_read(Ok(()));
         fill_rows(h, at, stride, row, buf);
         Ok(())
     }

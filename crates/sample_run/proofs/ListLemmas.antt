@@ -9,9 +9,9 @@ use Rattle.request_lang.specs.Grammar.{max_requests, max_list_bytes}
 use Rattle.request_lang.specs.RequestForm.{request_of}
 use Rattle.request_lang.specs.declared.request.Request.{Request}
 use Rattle.request_lang.specs.declared.request.Request.TheVariants.{Tex, Sync}
-use Rattle.sample_run.specs.declared.lookup.Lookup.{Lookup}
+use Rattle.sample_run.specs.declared.lookup.SampleLookup.{SampleLookup}
 use Rattle.sample_run.specs.Draw.{first_state}
-use Rattle.sample_run.specs.Lookup as made
+use Rattle.sample_run.specs.SampleLookup as made
 use Rattle.sample_run.specs.MadeList as spec
 use Rattle.sample_run.proofs.PlainLemmas.{ArePrinted, is_printed, no_control, printed_at}
 use Rattle.sample_run.proofs.PlainLemmas.{printed_text}
@@ -51,7 +51,7 @@ content_is (b ∷ line) printed =
 -- ---- the text of a request
 
 -- the line of a lookup is not skipped
-lookup_not_passed : (l : Lookup) → is_passed_over (made.lookup_text l) ≡ false
+lookup_not_passed : (l : SampleLookup) → is_passed_over (made.lookup_text l) ≡ false
 lookup_not_passed l =
     rw (ne_eqb (length (made.lookup_text l)) 0 (λ none. absurd (omega (arith, none)))) refl
 

@@ -15,8 +15,8 @@ use Rattle.request_lang.specs.LineField.{wrap_mode}
 use Rattle.request_lang.specs.LineField.{filter_mode, name_field, max_unsigned}
 use Rattle.request_lang.specs.RequestForm.{request_of, tex, named}
 use Rattle.request_lang.specs.declared.request.Request.TheVariants.{Tex}
-use Rattle.sample_run.specs.declared.lookup.Lookup.{Lookup}
-use Rattle.sample_run.specs.Lookup as spec
+use Rattle.sample_run.specs.declared.lookup.SampleLookup.{SampleLookup}
+use Rattle.sample_run.specs.SampleLookup as spec
 use Rattle.sample_run.proofs.PlainLemmas.{ArePlain, ArePrinted, is_printed, printed}
 use Rattle.sample_run.proofs.PlainLemmas.{one_field, printed_text}
 use Rattle.sample_run.proofs.NumberLemmas.{IsSigned, decimal_plain, decimal_within, signed_number}
@@ -53,7 +53,7 @@ filter_reads Trilinear = refl
 -- ---- a lookup
 
 -- the lookup's numbers are in the ranges of a list
-pub record IsListed (l : Lookup) : Type 0 where
+pub record IsListed (l : SampleLookup) : Type 0 where
   pub s : IsSigned l.request.s
   pub t : IsSigned l.request.t
   pub lod : l.request.lod < 2 ^ 32
@@ -78,7 +78,7 @@ name_last : (request : TexRequest) (file : ℕ)
     → named (Tex request) (32 ∷ spec.file_name file) ≡ Ok (Tex request (spec.file_name file))
 name_last request file = rw (name_reads file) refl
 
-module _ (l : Lookup) (listed : IsListed l) where
+module _ (l : SampleLookup) (listed : IsListed l) where
   -- the text is one line
   pub lookup_printed : ArePrinted (spec.lookup_text l)
   lookup_printed =

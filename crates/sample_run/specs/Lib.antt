@@ -1,5 +1,5 @@
 pub mod Draw
-pub mod Lookup
+pub mod SampleLookup
 pub mod MadeList
 pub mod Size
 pub mod Summary

@@ -3,7 +3,7 @@ use Rattle.std.specs.Prelude.{ℕ, zero, suc, ◌+◌, ◌%◌, ◌==◌, Bool, 
 use Rattle.std.specs.Prelude.{if◌then◌else◌}
 use Rattle.request_lang.specs.Grammar.{line_feed}
 use Rattle.sample_run.specs.Draw.{first_state}
-use Rattle.sample_run.specs.Lookup.{lookup, lookup_text, behind_lookup}
+use Rattle.sample_run.specs.SampleLookup.{lookup, lookup_text, behind_lookup}
 
 -- every 4096th request, counted from 0, is a `sync`
 abbrev pub is_sync : ℕ → Bool

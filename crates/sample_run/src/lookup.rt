@@ -2,7 +2,7 @@
 
 ghost use Rattle.std.specs.Prelude.{◌≡◌, ◌++◌, ◌∷◌, [], string_bytes, OnOk};
 ghost use Rattle.request_lang.specs.Grammar.{line_feed};
-ghost use Rattle.sample_run.specs.Lookup as spec;
+ghost use Rattle.sample_run.specs.SampleLookup as spec;
 
 use crate::draws::Draws;
 use std::alloc::AllocError;
@@ -10,7 +10,7 @@ use texel_filter::{Filter, TexRequest, Wrap};
 
 /// A lookup in a sample file.
 #[derive(Clone, Copy, Debug, PartialEq, Eq)]
-pub(crate) struct Lookup {
+pub(crate) struct SampleLookup {
     pub(crate) request: TexRequest,
     /// The number of the file.
     pub(crate) file: u64,
@@ -47,7 +47,7 @@ fn filter(drawn: u64) -> Filter
 }
 
 /// The next lookup. Draws eight numbers.
-pub(crate) fn next_lookup(draws: &mut Draws) -> Lookup
+pub(crate) fn next_lookup(draws: &mut Draws) -> SampleLookup
     ensures value { result ≡ spec.lookup draws.old }
     ensures state { draws.new ≡ spec.behind_lookup draws.old }
 {
@@ -68,7 +68,7 @@ pub(crate) fn next_lookup(draws: &mut Draws) -> Lookup
         filter,
         nch,
     };
-    Lookup { request, file }
+    SampleLookup { request, file }
 }
 
 /// The word for a wrap.
@@ -95,7 +95,7 @@ fn filter_word(filter: Filter) -> &'static str
 }
 
 /// Appends the line of a lookup, with its line feed.
-pub(crate) fn push_lookup(text: &mut String, lookup: &Lookup) -> Result<(), AllocError>
+pub(crate) fn push_lookup(text: &mut String, lookup: &SampleLookup) -> Result<(), AllocError>
     ensures { OnOk result (string_bytes text.new
         ≡ string_bytes text.old ++ (spec.lookup_text lookup.now ++ line_feed ∷ [])) }
 {

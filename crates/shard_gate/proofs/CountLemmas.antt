@@ -6,7 +6,7 @@ use Rattle.std.specs.List.{IsDistinct, sum_by}
 use Rattle.std.specs.Map.{keys_of}
 use Rattle.std.proofs.lemmas.Bool.{eqb-true, eq-eqb}
 use Rattle.std.proofs.lemmas.List.Sums.{sum_by-cons}
-use Rattle.tile_store.specs.Entry.{EntryState, Entries, entry_at, pin_sum}
+use Rattle.tile_store.specs.CachedTile.{EntryState, Entries, entry_at, pin_sum}
 use Rattle.tile_store.specs.Keys.{slot_of}
 use Rattle.tile_store.specs.Slots.{ShardState, AreInSlots}
 use Rattle.shard_gate.specs.declared.standing.Standing.{Standing}

@@ -9,7 +9,7 @@ use Rattle.std.specs.Map.{remove_entry, set_value, keys_of}
 use Rattle.std.proofs.lemmas.Bool.{eqb-true, eq-eqb}
 use mathlib.Core.Logic.{dite}
 use native.Mathlib.Decide.{ℕ_discrete}
-use Rattle.tile_store.specs.Entry.{EntryState, Entries, entry_at, pinned_entries}
+use Rattle.tile_store.specs.CachedTile.{EntryState, Entries, entry_at, pinned_entries}
 use Rattle.tile_store.specs.Changes.{one_more, one_less, pinned_first, unpinned_once}
 use Rattle.tile_store.specs.Changes.{KeepsPinned}
 use Rattle.tile_store.specs.Keys.{key_in}

@@ -7,8 +7,8 @@ use Rattle.std.specs.List.{AllByRecursion, IsDistinct, sum_by}
 use Rattle.std.specs.Map.{keys_of, values_of}
 use Rattle.std.proofs.lemmas.Bool.{eqb-false, eq-eqb, false≢true}
 use Rattle.std.proofs.lemmas.List.Sums.{sum_by-cons}
-use Rattle.tile_store.specs.Entry.{EntryState, Entries, entry_at}
-use Rattle.tile_store.specs.Entry.{pin_sum}
+use Rattle.tile_store.specs.CachedTile.{EntryState, Entries, entry_at}
+use Rattle.tile_store.specs.CachedTile.{pin_sum}
 use Rattle.tile_store.specs.Keys.{key_in, slot_of}
 use Rattle.tile_store.specs.Slots.{ShardState, AreInSlots}
 use Rattle.tile_store.proofs.KeyLemmas.{slot_has, slot_by}

@@ -9,7 +9,7 @@ use Rattle.std.proofs.lemmas.Bool.{false≢true}
 use Rattle.std.proofs.lemmas.List.{length-set, get_or-set_same, get_or-set_other}
 use mathlib.Core.Logic.{dite}
 use native.Mathlib.Decide.{ℕ_discrete}
-use Rattle.tile_store.specs.Entry.{EntryState, Entries, entry_at}
+use Rattle.tile_store.specs.CachedTile.{EntryState, Entries, entry_at}
 use Rattle.tile_store.specs.Changes.{unpinned_once}
 use Rattle.tile_store.specs.Changes.{KeepsPinned}
 use Rattle.tile_store.specs.Links.{is_in}

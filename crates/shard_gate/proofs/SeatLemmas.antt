@@ -12,13 +12,13 @@ use Rattle.std.proofs.lemmas.List.Elements.{All-map, Contains-append_cases}
 use mathlib.Core.Logic.{dite}
 use native.Mathlib.Decide.{ℕ_discrete}
 use Rattle.shard_gate.specs.Seated.{ShardId, SeatAt, shard_of_seat, first_seat, IsMadeBy}
-use Rattle.shard_gate.specs.Gate.{max_passes, max_pins, shard_of}
+use Rattle.shard_gate.specs.Gate.{max_permits, max_pins, shard_of}
 use Rattle.shard_gate.specs.Visit.{visits_at, joined_at}
 use Rattle.shard_gate.specs.Kept.{IsPinSeat, IsPartOf, ArePlaced, keys_of_seats, visits_of_seat}
 use Rattle.shard_gate.specs.Kept.{joined_of_seat}
 
 pub few_permits : (seats : List SeatAt) (permits : ℕ) → IsPinSeat seats permits
-    → permits ≤ max_passes
+    → permits ≤ max_permits
 few_permits [] permits kept = absurd (omega (arith, kept.some))
 few_permits (s ∷ seats) permits kept =
     let part = kept.parts 0 s (omega arith) in
@@ -125,7 +125,7 @@ module _ (seats : List SeatAt) (permits : ℕ) (k : ℕ) (new d : SeatAt) (low :
       (record {
         same = same_permits ∙ part.same;
         few = subst (λ (i : ShardId). permits ≤ i.passes) (sym same_shard) part.few;
-        most = subst (λ (i : ShardId). i.passes ≤ max_passes) (sym same_shard) part.most;
+        most = subst (λ (i : ShardId). i.passes ≤ max_permits) (sym same_shard) part.most;
       }))
       (λ (ne : j ≢ k). subst (λ (s : SeatAt). IsPartOf permits s)
       (sym (get_or-set_other seats k j new e ne)) (kept.parts j e inside))
@@ -202,7 +202,7 @@ module _ (seats : List SeatAt) (permits : ℕ) (k : ℕ) (new d : SeatAt) (low :
 
 -- a first seat has all permits at each shard
 pub first_parts : (tables : List ShardId) (tag passes : ℕ) → All (IsMadeBy tag passes) tables
-    → passes ≤ max_passes → All (IsPartOf passes) (map first_seat tables)
+    → passes ≤ max_permits → All (IsPartOf passes) (map first_seat tables)
 first_parts tables tag passes made few = All-map (IsPartOf passes) first_seat tables
     (λ k d low. let by = made k d low in record {
       same = by.passes;

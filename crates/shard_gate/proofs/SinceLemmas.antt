@@ -6,7 +6,7 @@ use Rattle.std.proofs.lemmas.List.Elements.{All-nil, All-cons, All-append}
 use Rattle.tex_world.specs.World.{Files}
 use Rattle.tiff_format.specs.declared.shard_count.ShardCount.{ShardCount}
 use Rattle.tile_store.specs.Tile.{CachedTile}
-use Rattle.tile_store.specs.Entry.{EntryState, entry_at}
+use Rattle.tile_store.specs.CachedTile.{EntryState, entry_at}
 use Rattle.tile_store.specs.Changes.{pinned_first}
 use Rattle.shard_gate.specs.Visit.{Visit, visit, visits_at}
 use Rattle.shard_gate.specs.Given.{GivesBack, Finds, Inserts, Releases, Counts}

@@ -10,7 +10,7 @@ use Rattle.std.proofs.lemmas.List.{length-set, get_or-set_same, get_or-set_other
 use mathlib.Core.Logic.{dite}
 use native.Mathlib.Decide.{ℕ_discrete}
 use Rattle.tile_store.specs.Tile.{CachedTile}
-use Rattle.tile_store.specs.Entry.{EntryState, Entries, entry_at}
+use Rattle.tile_store.specs.CachedTile.{EntryState, Entries, entry_at}
 use Rattle.tile_store.specs.Changes.{new_entry, pinned_first, with_first, with_pin}
 use Rattle.tile_store.specs.Changes.{KeepsPinned}
 use Rattle.tile_store.specs.Keys.{key_in, slot_of}

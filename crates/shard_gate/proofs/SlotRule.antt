@@ -8,12 +8,12 @@ use mathlib.Core.Option.{some, none}
 use lib.ListN.{get_elem?}
 use Rattle.atomic_table.specs.Table.{Me, keeps, step}
 use Rattle.atomic_table.specs.Table.{stepped, Allows}
-use Rattle.tile_store.specs.Entry.{Entries}
+use Rattle.tile_store.specs.CachedTile.{Entries}
 use Rattle.shard_gate.specs.declared.standing.Standing.{Standing}
 use Rattle.shard_gate.specs.declared.rule.Terms.{Terms}
 use Rattle.shard_gate.specs.Words.{SlotWords, AreWords, AreHeld}
 use Rattle.shard_gate.specs.Words.{key_word, pin_word}
-use Rattle.shard_gate.specs.Words.{max_passes, max_pins, slots_of, pins_on}
+use Rattle.shard_gate.specs.Words.{max_permits, max_pins, slots_of, pins_on}
 use Rattle.shard_gate.specs.Turn.{OneTurn, IsOf, TookLawful}
 use Rattle.shard_gate.specs.Visit.{Visit}
 use Rattle.shard_gate.specs.Steps.{Looked, Pinned, Unpinned, Filled}
@@ -93,7 +93,7 @@ module _ {S : Type 0} (lawful : Terms → S → Type 0) (shown : S → Entries)
       )
 
   pub pin_allowed : (slots id slot : ℕ) (me : Me S Standing) → MayPin slot me.0
-      → terms.passes ≤ max_passes
+      → terms.passes ≤ max_permits
       → Allows (OneTurn lawful shown words_in terms) slots id me (pin_word slot) (λ n. (n + 1) % 2 ^ 64)
       (Pinned (step slots (pin_word slot) 1 0 none) me)
   pin_allowed slots id slot me may small s kept homes at fits =

@@ -3,7 +3,7 @@ use Rattle.std.proofs.Common.{◌≡◌, ℕ, ◌<◌, List, [], ◌∷◌}
 use Rattle.std.proofs.Common.{length, Some, IsSome, refl, sym, ap, subst, ◌∙◌, arith}
 use Rattle.atomic_table.specs.Table.{Me, rest}
 use Rattle.tex_world.specs.World.{Files}
-use Rattle.tile_store.specs.Entry.{entry_at}
+use Rattle.tile_store.specs.CachedTile.{entry_at}
 use Rattle.tile_store.specs.Keys.{slot_of, AreApart}
 use Rattle.tile_store.specs.Lawful.{Lawful}
 use Rattle.tile_store.specs.Slots.{ShardState, TellsSlot}

@@ -8,7 +8,7 @@ use Rattle.std.specs.Prelude.{nat_eq}
 use Rattle.tex_world.specs.World.{Files}
 use Rattle.tiff_format.specs.declared.cut.Cut.{Cut}
 use Rattle.tile_store.specs.Tile.{CachedTile}
-use Rattle.tile_store.specs.Entry.{EntryState, Entries, entry_at}
+use Rattle.tile_store.specs.CachedTile.{EntryState, Entries, entry_at}
 use Rattle.tile_store.specs.Changes.{kept_tile}
 use Rattle.tile_store.specs.Lawful.{FitsCut}
 use Rattle.shard_gate.specs.Gate.{IsTileOf}

@@ -6,12 +6,12 @@ use Rattle.std.proofs.Common.{set}
 use Rattle.std.proofs.lemmas.List.{get_or-set_same}
 use Rattle.atomic_table.specs.Table.{Me, rest}
 use Rattle.tex_world.specs.World.{Files}
-use Rattle.tile_store.specs.Entry.{EntryState, Entries, tile_at, pin_sum, HasPin}
+use Rattle.tile_store.specs.CachedTile.{EntryState, Entries, tile_at, pin_sum, HasPin}
 use Rattle.tile_store.specs.Keys.{slot_of}
 use Rattle.tile_store.specs.Slots.{ShardState}
 use Rattle.shard_gate.specs.declared.standing.Standing.{Standing}
 use Rattle.shard_gate.specs.Words.{SlotWords, pinned_words, unpinned_words, keyed_words, AreAmong, AreFewPins}
-use Rattle.shard_gate.specs.Words.{keys_of_pins, pins_on, without_pin_of, max_passes, max_pins, slots_of}
+use Rattle.shard_gate.specs.Words.{keys_of_pins, pins_on, without_pin_of, max_permits, max_pins, slots_of}
 use Rattle.shard_gate.specs.Turn.{terms_of, with_turn, without_turn}
 use Rattle.shard_gate.specs.Steps.{HasBody, HasOwnPins, ArePinsIn, AreLawful, MayUnpin}
 use Rattle.shard_gate.specs.Turn.{with_pin, without_pin}
@@ -74,7 +74,7 @@ module _ {A : Type 0} (value : A → ShardState) (files : Files) (old : Standing
         turn.home.stored.entries.distinct turn.few
 
     -- one more pin is possible
-    pub pins_low : old.passes ≤ max_passes → pin_sum s.entries + 1 < 2 ^ 32
+    pub pins_low : old.passes ≤ max_permits → pin_sum s.entries + 1 < 2 ^ 32
     pins_low few = omega (arith, pins_high)
 
     -- there are more slots than pins

@@ -9,7 +9,7 @@ use prog.Atomic.{either}
 use Rattle.atomic_table.specs.Table.{State, Me, Act, keeps, takes, gives, step, rest, put_back}
 use Rattle.atomic_table.specs.Table.{Valid, stepped, carried_after, Allows}
 use Rattle.atomic_table.proofs.Lists.{set_here, exchanged}
-use Rattle.tile_store.specs.Entry.{Entries}
+use Rattle.tile_store.specs.CachedTile.{Entries}
 use Rattle.shard_gate.specs.declared.standing.Standing.{Standing}
 use Rattle.shard_gate.specs.declared.rule.Terms.{Terms}
 use Rattle.shard_gate.specs.Words.{SlotWords, AreWords}

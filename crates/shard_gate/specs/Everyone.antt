@@ -3,7 +3,7 @@ use Rattle.std.specs.Prelude.{◌≡◌, ℕ, ◌+◌, ◌<◌, cond, nat_eq, Li
 use Rattle.std.specs.Prelude.{slice_index_or}
 use Rattle.std.specs.List.{sum_by}
 use Rattle.std.specs.Option.{option_map_or}
-use Rattle.tile_store.specs.Entry.{Entries, entry_at}
+use Rattle.tile_store.specs.CachedTile.{Entries, entry_at}
 use Rattle.shard_gate.specs.Visit.{Visit, visits_at}
 use Rattle.shard_gate.specs.Gate.{PinSeatState, shard_of}
 

@@ -10,10 +10,10 @@ use Rattle.tiff_format.specs.Cut.{IsCut}
 use Rattle.tile_layout.specs.Key.{generation_of, file_of, level_of, index_of}
 use Rattle.tile_store.specs.Tile.{CachedTile}
 use Rattle.tile_store.specs.Told.{ToldBy}
-use Rattle.tile_store.specs.Entry.{Entries}
+use Rattle.tile_store.specs.CachedTile.{Entries}
 use Rattle.tile_store.specs.Tag.{tag_of}
 use Rattle.tile_store.specs.Lawful.{HasCell, FitsCut, Lawful}
-pub use Rattle.shard_gate.specs.Words.{max_passes, max_pins, more_slots, slots_of}
+pub use Rattle.shard_gate.specs.Words.{max_permits, max_pins, more_slots, slots_of}
 use Rattle.shard_gate.specs.Visit.{Visit, visits_at, joined_at}
 use Rattle.shard_gate.specs.Given.{IsCountOf}
 use Rattle.shard_gate.specs.Seated.{ShardId}
@@ -22,7 +22,7 @@ use Rattle.shard_gate.specs.declared.error.NotPinned.TheVariants.{NoMemory, Busy
 
 -- the greatest budget in bytes
 abbrev pub max_budget : ℕ
-max_budget = 2 ^ 32
+max_budget = 2 ^ 40
 
 -- the greatest number of shards
 abbrev pub max_shards : ℕ
@@ -74,7 +74,7 @@ pub record AreLimits (budget shards passes : ℕ) (cut : Cut) : Type 0 where
   pub shards_low : 1 ≤ shards
   pub shards_high : shards ≤ max_shards
   pub passes_low : 1 ≤ passes
-  pub passes_high : passes ≤ max_passes
+  pub passes_high : passes ≤ max_permits
   pub cut_is : IsCut cut
 
 -- The budget is divided equally, and the tag of each shard encodes its share and the cut.

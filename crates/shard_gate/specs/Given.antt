@@ -5,7 +5,7 @@ use Rattle.std.specs.Prelude.{Contains, slice_index}
 use Rattle.tex_world.specs.World.{Files}
 use Rattle.tiff_format.specs.declared.shard_count.ShardCount.{ShardCount}
 use Rattle.tile_store.specs.Tile.{CachedTile}
-use Rattle.tile_store.specs.Entry.{Entries, entry_at, tile_at, HasPin, pin_sum, loose_bytes}
+use Rattle.tile_store.specs.CachedTile.{Entries, entry_at, tile_at, HasPin, pin_sum, loose_bytes}
 use Rattle.tile_store.specs.Changes.{pinned_first, inserted, kept_tile, kept_within, unpinned_once}
 use Rattle.tile_store.specs.Changes.{without_stale}
 use Rattle.tile_store.specs.Lawful.{Lawful}

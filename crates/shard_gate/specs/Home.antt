@@ -1,7 +1,7 @@
 -- Which shards may be in a table, and what do the table's words say of them?
 use Rattle.std.specs.Prelude.{◌≡◌, ℕ, [], length, map, Option, Some, None}
 use Rattle.tex_world.specs.World.{Files}
-use Rattle.tile_store.specs.Entry.{Entries}
+use Rattle.tile_store.specs.CachedTile.{Entries}
 use Rattle.tile_store.specs.Lawful.{Lawful}
 use Rattle.tile_store.specs.Slots.{ShardState, AreInSlots}
 use Rattle.shard_gate.specs.Words.{SlotWords, slots_of}

@@ -8,7 +8,7 @@ use Rattle.tile_store.specs.Tag.{tag_of}
 use Rattle.shard_gate.specs.Visit.{Visit}
 use Rattle.shard_gate.specs.Seated.{ShardId, SeatAt, shard_of_seat, IsMadeBy}
 use Rattle.shard_gate.specs.Gate.{GateState, PinSeatState}
-use Rattle.shard_gate.specs.Gate.{max_shards, max_passes, max_pins, max_budget, shard_of}
+use Rattle.shard_gate.specs.Gate.{max_shards, max_permits, max_pins, max_budget, shard_of}
 
 -- the visits of a seat
 abbrev pub visits_of_seat : SeatAt → List Visit
@@ -37,7 +37,7 @@ seat_state seats permits = record {
 pub record IsPartOf (permits : ℕ) (s : SeatAt) : Type 0 where
   pub same : s.permits ≡ permits
   pub few : permits ≤ s.shard.passes
-  pub most : s.shard.passes ≤ max_passes
+  pub most : s.shard.passes ≤ max_permits
 
 -- Each pin is at the shard of its key.
 abbrev pub ArePlaced : List SeatAt → Type 0
@@ -64,4 +64,4 @@ pub record IsGate (shards : List ShardId) (share : ℕ) (cut : Cut) (passes : �
   pub few : length shards ≤ max_shards
   pub cut_is : IsCut cut
   pub share_high : share ≤ max_budget
-  pub passes_high : passes ≤ max_passes
+  pub passes_high : passes ≤ max_permits

@@ -3,7 +3,7 @@ use Rattle.std.specs.Prelude.{◌≡◌, ℕ, ◌+◌, ◌-◌, ◌≤◌, true,
 use Rattle.atomic_table.specs.Table.{Me}
 use Rattle.atomic_table.specs.Seated.{TableId}
 use Rattle.atomic_table.specs.declared.shared.Seat.{Seat}
-use Rattle.shard_gate.specs.Words.{word_count, max_passes, keys_of_pins}
+use Rattle.shard_gate.specs.Words.{word_count, max_permits, keys_of_pins}
 use Rattle.shard_gate.specs.Visit.{Visit}
 use Rattle.std.specs.List.{All}
 use Rattle.shard_gate.specs.declared.standing.Standing.{Standing}
@@ -47,7 +47,7 @@ pub record SeatAt : Type 0 where
 pub record IsLaid (passes : ℕ) (table : TableId) : Type 0 where
   pub words : table.words ≡ word_count passes
   pub slots : table.slots ≡ 1
-  pub few : passes ≤ max_passes
+  pub few : passes ≤ max_permits
 
 module _ {S : Type 0} where
   -- this seat, as contracts see it

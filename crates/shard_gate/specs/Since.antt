@@ -2,7 +2,7 @@
 use Rattle.std.specs.Prelude.{◌≡◌, ℕ, length, List, ◌∷◌, ◌++◌, Some, None}
 use Rattle.std.specs.List.{All}
 use Rattle.tile_store.specs.Tile.{CachedTile}
-use Rattle.tile_store.specs.Entry.{entry_at}
+use Rattle.tile_store.specs.CachedTile.{entry_at}
 use Rattle.tile_store.specs.Changes.{pinned_first, inserted}
 use Rattle.shard_gate.specs.Visit.{Visit, visits_at}
 use Rattle.shard_gate.specs.Given.{released}

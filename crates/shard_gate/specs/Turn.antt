@@ -2,7 +2,7 @@
 use Rattle.std.specs.Prelude.{◌≡◌, ◌⊎◌, ℕ, ◌+◌, ◌-◌, ◌*◌, ◌≤◌, true, false, cond, List, [], ◌∷◌}
 use Rattle.std.specs.Prelude.{◌++◌, length, slice_index}
 use Rattle.std.specs.List.{sum_by}
-use Rattle.tile_store.specs.Entry.{Entries}
+use Rattle.tile_store.specs.CachedTile.{Entries}
 use Rattle.tile_store.specs.Links.{is_in}
 use mathlib.Core.Option.{some}
 use lib.ListN.{get_elem?}

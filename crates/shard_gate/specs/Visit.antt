@@ -1,7 +1,7 @@
 -- How do contracts see a visit to a shard? It begins when the seat takes the lock, and ends when it
 -- gives it back.
 use Rattle.std.specs.Prelude.{◌≡◌, ◌⊎◌, ℕ, List, [], ◌∷◌, Option, Some, None, slice_index_or}
-use Rattle.tile_store.specs.Entry.{Entries}
+use Rattle.tile_store.specs.CachedTile.{Entries}
 
 -- One visit of a seat: the entries that it found, and those that it left. The slot of an entry is
 -- the one that has the entry's key.

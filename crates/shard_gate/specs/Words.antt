@@ -6,9 +6,9 @@ use Rattle.std.specs.Prelude.{◌≡◌, ℕ, ◌+◌, ◌-◌, ◌*◌, ◌≤�
 use Rattle.std.specs.Prelude.{slice_index, slice_set, map}
 use Rattle.std.specs.List.{sum_by, IsDistinct}
 
--- the greatest number of permits of all seats together
-abbrev pub max_passes : ℕ
-max_passes = 16
+-- the greatest number of permits of all seats together, with which a shard has 65536 slots
+abbrev pub max_permits : ℕ
+max_permits = 9216
 
 -- the pins that a seat may hold for each of its permits
 abbrev pub max_pins : ℕ

@@ -6,7 +6,7 @@ use Rattle.std.specs.Prelude.{None, IfOk}
 use Rattle.tex_world.specs.World.{Files}
 use Rattle.tile_store.specs.Tile.{CachedTile}
 use Rattle.tile_store.specs.Tag.{cut_of}
-use Rattle.tile_store.specs.Entry.{Entries, pin_sum}
+use Rattle.tile_store.specs.CachedTile.{Entries, pin_sum}
 use Rattle.tile_store.specs.Links.{is_in}
 use Rattle.tile_store.specs.Keys.{key_in}
 use Rattle.tile_store.specs.Slots.{ShardState}

@@ -3,7 +3,7 @@ ghost use Rattle.std.specs.Prelude.{◌≡◌, ◌≤◌, length, map, IfOk};
 ghost use Rattle.tiff_format.specs.Cut.{IsCut};
 ghost use Rattle.tile_store.specs.Tag.{tag_of};
 ghost use Rattle.shard_gate.specs.Seated.{AreMadeBy, first_seat};
-ghost use Rattle.shard_gate.specs.Gate.{max_budget, max_passes};
+ghost use Rattle.shard_gate.specs.Gate.{max_budget, max_permits};
 
 use crate::rule::Terms;
 use crate::shard_table::{ShardSeat, ShardTable};
@@ -34,7 +34,7 @@ pub(crate) fn laid<W: World>(
     shards: usize,
     terms: &Terms,
 ) -> Result<(Vec<ShardTable<W>>, Vec<ShardSeat<W>>), AllocError>
-    requires few { terms.now.passes ≤ max_passes }
+    requires few { terms.now.passes ≤ max_permits }
     requires some { 1 ≤ terms.now.passes }
     ensures made { IfOk result (λ made. AreMadeBy terms.now made.0.items) }
     ensures count { IfOk result (λ made. length made.0.items ≡ shards) }

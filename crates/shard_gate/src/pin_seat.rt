@@ -1,6 +1,6 @@
 //! What one caller has of a gate: permits and pins.
 ghost use Rattle.std.specs.Prelude.{◌≡◌, ◌*◌, ◌≤◌, length};
-ghost use Rattle.shard_gate.specs.Gate.{max_passes, max_pins};
+ghost use Rattle.shard_gate.specs.Gate.{max_permits, max_pins};
 
 use crate::shard_table::ShardSeat;
 use std::marker::Model;
@@ -31,7 +31,7 @@ impl<W: World> PinSeat<W> {
     pub fn permits(&self) -> u32
         ensures value { result ≡ self.now.permits }
         ensures some { 1 ≤ result }
-        ensures few { result ≤ max_passes }
+        ensures few { result ≤ max_permits }
         ensures pins { length self.now.pins ≤ max_pins * result }
     {
         self.permits

@@ -1,7 +1,7 @@
 //! The rule that a shard's lock guards, and the limits of a table.
 ghost use Rattle.std.specs.Prelude.{◌≡◌, ◌≤◌};
-ghost use Rattle.tile_store.specs.Entry.{Entries};
-ghost use Rattle.shard_gate.specs.Words.{SlotWords, max_passes, slots_of};
+ghost use Rattle.tile_store.specs.CachedTile.{Entries};
+ghost use Rattle.shard_gate.specs.Words.{SlotWords, max_permits, slots_of};
 ghost use Rattle.shard_gate.specs.Turn.{OneTurn, first_standing};
 
 use crate::standing::Standing;
@@ -41,7 +41,7 @@ pub(crate) struct Terms {
 impl Terms {
     /// The number of slots of the body.
     pub(crate) fn slots(&self) -> u32
-        requires { self.now.passes ≤ max_passes }
+        requires { self.now.passes ≤ max_permits }
         ensures { result ≡ slots_of self.now.passes }
     {
         PINS * self.passes + MORE_SLOTS

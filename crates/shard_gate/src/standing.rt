@@ -26,9 +26,9 @@ impl Model for Pins {
 }
 
 /// What a seat that has the lock knows of the words of all slots. It takes no memory.
-pub(crate) struct Known {}
+pub(crate) struct KnownWords {}
 
-impl Model for Known {
+impl Model for KnownWords {
     ghost use Rattle.shard_gate.specs.Words.{SlotWords, no_words};
 
     ghost Value = { SlotWords };
@@ -48,9 +48,9 @@ impl Model for Changed {
 }
 
 /// The visits of the seats that a seat has taken over, a list for each seat. They take no memory.
-pub(crate) struct Joined {}
+pub(crate) struct JoinedVisits {}
 
-impl Model for Joined {
+impl Model for JoinedVisits {
     ghost use Rattle.std.specs.Prelude.{List, []};
     ghost use Rattle.shard_gate.specs.Visit.{Visit};
 
@@ -74,7 +74,7 @@ pub(crate) struct Standing {
     /// The seat's pins, at most seven for each permit.
     pub pins: Pins,
     /// The words of the slots while the seat has the lock, when no other seat changes them.
-    pub known: Known,
+    pub known: KnownWords,
     /// The slots whose keys the seat has written since it took the lock.
     pub filled: Changed,
     /// The slots whose pins the seat has changed since it took the lock.
@@ -82,5 +82,5 @@ pub(crate) struct Standing {
     /// The visits. A visit begins when the lock is taken, and ends when it is given back.
     pub visits: Visits,
     /// The visits of the seats that this seat has taken over.
-    pub joined: Joined,
+    pub joined: JoinedVisits,
 }

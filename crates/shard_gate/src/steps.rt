@@ -35,9 +35,9 @@ impl<S> Play<S, Standing> for Count {
 }
 
 /// A load of a slot's key word.
-pub(crate) struct Look;
+pub(crate) struct LoadKey;
 
-impl<S> Play<S, Standing> for Look {
+impl<S> Play<S, Standing> for LoadKey {
     ghost then = { Looked };
 }
 

@@ -2,7 +2,7 @@
 ghost use Rattle.std.specs.Prelude.{◌≡◌, ℕ, ◌-◌, ◌*◌, ◌<◌, ◌≤◌, true, false, [], length, slice_index};
 ghost use Rattle.std.specs.Prelude.{IfOk, OnOk, OnErr};
 ghost use Rattle.shard_gate.specs.Words.{turn_word, tag_word, first_word, word_count};
-ghost use Rattle.shard_gate.specs.Words.{max_passes, max_pins, AreBlank};
+ghost use Rattle.shard_gate.specs.Words.{max_permits, max_pins, AreBlank};
 ghost use Rattle.shard_gate.specs.Steps.{HasBody, AreLawful, MayLook, MayPin, MayUnpin, MayFill};
 ghost use Rattle.shard_gate.specs.Turn.{without_turn, with_pin, without_pin, with_key};
 ghost use Rattle.shard_gate.specs.Steps.{entries_of};
@@ -11,7 +11,9 @@ ghost use Rattle.shard_gate.specs.Seated.{kept_seat, new_seat, both_seats};
 
 use crate::rule::{BodyRule, Terms, Turns};
 use crate::standing::Standing;
-use crate::steps::{AllPermits, Count, FillSlot, Give, Look, OnePermit, PinSlot, Take, UnpinSlot};
+use crate::steps::{
+    AllPermits, Count, FillSlot, Give, LoadKey, OnePermit, PinSlot, Take, UnpinSlot,
+};
 use crate::turn_seat::TurnSeat;
 use atomic_table::{Refused, Seat, Table};
 use std::alloc::{AllocError, Global};
@@ -33,7 +35,7 @@ const PINS: usize = 33;
 
 /// The words of a new table: unlocked, with its tag, and no slot with a key or a pin.
 fn words_of(alloc: Global, terms: &Terms) -> Result<Vec<u64>, AllocError>
-    requires { terms.now.passes ≤ max_passes }
+    requires { terms.now.passes ≤ max_permits }
     ensures count { IfOk result (λ words. length words.items ≡ word_count terms.now.passes) }
     ensures turn { IfOk result (λ words. slice_index words.items turn_word ≡ 0) }
     ensures tag { IfOk result (λ words. slice_index words.items tag_word ≡ terms.now.tag) }
@@ -68,7 +70,7 @@ impl<S: Drop, L: BodyRule<S>> TurnTable<S, L> {
         terms: &Terms,
         body: S,
     ) -> Result<(TurnTable<S, L>, TurnSeat<S>), AllocError>
-        requires few { terms.now.passes ≤ max_passes }
+        requires few { terms.now.passes ≤ max_permits }
         requires some { 1 ≤ terms.now.passes }
         requires lawful { L.lawful terms.now body }
         requires blank { AreBlank terms.now.passes (L.words body) }
@@ -145,7 +147,7 @@ impl<S: Drop, L: BodyRule<S>> TurnTable<S, L> {
     {
         self.table
             .shared
-            .load::<Look>(seat, KEYS + 2 * slot as usize)
+            .load::<LoadKey>(seat, KEYS + 2 * slot as usize)
     }
 
     /// Adds a pin of the seat to this slot.

@@ -2,7 +2,7 @@
 ghost use Rattle.std.specs.Prelude.{◌≡◌, ◌+◌, ◌^◌, ◌<◌, [], length, option_map, Some, IsSome};
 ghost use Rattle.std.specs.Prelude.{IfOk, IfSome, IfNone, OnOk, OnErr, ⊤};
 ghost use Rattle.std.specs.Arc.{arc_value};
-ghost use Rattle.tile_store.specs.Entry.{entry_at, tile_at, HasPin, pin_sum};
+ghost use Rattle.tile_store.specs.CachedTile.{entry_at, tile_at, HasPin, pin_sum};
 ghost use Rattle.tile_store.specs.Changes.{pinned_first, inserted, kept_tile, without_stale};
 ghost use Rattle.tile_store.specs.Keys.{slot_of};
 ghost use Rattle.tile_store.specs.Slots.{AreInSlots};

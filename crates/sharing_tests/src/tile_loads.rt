@@ -10,7 +10,7 @@ use tex_world::{MemTap, TableWorld, Tap, TapHandle, World};
 use tiff_format::{Cut, Rect};
 use tile_layout::TileKey;
 use tile_load::{LoadError, load};
-use tile_store::{Row, Tile};
+use tile_store::{SampleRow, Tile};
 use waiter::Tries;
 
 type Source = MemTap<Pictures>;
@@ -89,7 +89,7 @@ enum Wanted {
 }
 
 /// Whether the row has these samples.
-fn is_row(row: &Row<'_>, samples: &[u16]) -> bool {
+fn is_row(row: &SampleRow<'_>, samples: &[u16]) -> bool {
     if row.count() != samples.len() {
         return false;
     }

@@ -3,7 +3,7 @@ use Rattle.std.specs.Prelude.{◌≡◌, ◌⊎◌, ℕ, ◌*◌, ◌<◌, ◌�
 use Rattle.std.specs.Prelude.{List, length, take, drop, slice_index, IfSome}
 use Rattle.file_table.specs.Calls.{sighted}
 use Rattle.std.specs.Borrow.{Bor}
-use Rattle.texture_sys.specs.declared.batch.Place.{Place}
+use Rattle.texture_sys.specs.declared.batch.LookupPoint.{LookupPoint}
 use Rattle.texture_sys.specs.declared.batch.BatchOptions.{BatchOptions}
 use Rattle.texture_sys.specs.declared.batch.BatchOptions.TheVariants.{Points, Footprints}
 use Rattle.texture_sys.specs.declared.batch.Batch.{Batch}
@@ -49,11 +49,11 @@ options_of b = if b.max_probes == 0
     })
 
 -- the lookups at these places
-abbrev pub batch_of : TexBatch → Bor (List Place) → Batch
+abbrev pub batch_of : TexBatch → Bor (List LookupPoint) → Batch
 batch_of b places = record { options = options_of b; places = places }
 
 -- how many values are asked for
-abbrev pub count_of : TexBatch → List Place → ℕ
+abbrev pub count_of : TexBatch → List LookupPoint → ℕ
 count_of b places = length places * batch_channels (options_of b)
 
 -- ---- what is answered
@@ -64,7 +64,7 @@ blank = record { done = 0; generation = 0; error = said.blank }
 
 -- The request is refused: no file has this number; a wrap or the filter is out of range, or the
 -- lookup that the answer names; or the buffer is too small.
-abbrev pub RefusesBatch : ℕ → TexBatch → Bor (List Place) → ℕ → ℕ → ℕ → Type 0
+abbrev pub RefusesBatch : ℕ → TexBatch → Bor (List LookupPoint) → ℕ → ℕ → ℕ → Type 0
 RefusesBatch files b places room done code = RefusesFile files b.file code
     ⊎ (((code ≡ 4) × (¬ HasOptions b ⊎ IsFirstOutOfRange (batch_of b places) done))
     ⊎ ((code ≡ 5) × (room < count_of b places.now)))
@@ -75,7 +75,7 @@ RefusesBatch files b places room done code = RefusesFile files b.file code
 -- and no other value was written. That generation is 0 if the file was not opened. If the pass
 -- keeps a valid record of the file and its microcache has every cell needed, the lookups succeed or
 -- a newer generation was seen.
-pub record SaysBatch (b : TexBatch) (places : Bor (List Place)) (code : ℕ) (answer : TexBatchAnswer)
+pub record SaysBatch (b : TexBatch) (places : Bor (List LookupPoint)) (code : ℕ) (answer : TexBatchAnswer)
     (out_old out_new : List ℕ) (old new : ClientState) : Type 0 where
   pub cache : new.cache ≡ old.cache
   pub ok : code ≡ 0 → Answers supplied_files b.file old.cache.gate.cut

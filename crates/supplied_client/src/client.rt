@@ -6,7 +6,7 @@ ghost use Rattle.tile_source.specs.Pass.{no_counts};
 ghost use Rattle.image_cache.specs.Pass.{IsNewCache, IsFirstPass, IsSecondPass};
 ghost use Rattle.tile_source.specs.Pass.{KeepsAllBut, nothing};
 ghost use Rattle.image_cache.specs.Pass.{PassAfterSplit};
-ghost use Rattle.image_cache.specs.Options.{NewCause};
+ghost use Rattle.image_cache.specs.Options.{LargeCause, opened_as};
 ghost use Rattle.supplied_client.specs.Client.{KeepsAllButPass, DropsSupplies, EndsRound, IsRepeated};
 ghost use Rattle.supplied_client.specs.Client.{AreSame, counts_of};
 ghost use Rattle.supplied_client.specs.Code as spec;
@@ -16,7 +16,7 @@ ghost use Rattle.supplied_client.specs.Unanswered.{Says};
 
 use crate::answer::{NEEDED, TexAnswer, code_of};
 use caller::Caller;
-use image_cache::{CacheError, NewError, Options, SplitError};
+use image_cache::{CacheError, LargeOptions, NewError, SplitError};
 use std::alloc::Global;
 use std::marker::Model;
 use supplied_tap::SuppliedTap;
@@ -77,16 +77,16 @@ impl Model for Client {
 
 impl Client {
     /// Makes a cache of `files` files, and its first pass.
-    pub fn new(alloc: Global, options: Options, files: u32) -> Result<Client, NewError>
+    pub fn new(alloc: Global, large: LargeOptions, files: u32) -> Result<Client, NewError>
         requires files { files ≤ max_files }
-        ensures cache { IfOk result (λ c. IsNewCache options files c.cache) }
+        ensures cache { IfOk result (λ c. IsNewCache (opened_as large) files c.cache) }
         ensures pass { IfOk result (λ c. IsFirstPass c.cache c.pass) }
         ensures none { IfOk result (λ c. HasNoSupplies c.tap) }
         ensures twice { IfOk result (λ c. c.twice ≡ no_counts) }
-        ensures cause { IfErr result (NewCause options) }
+        ensures cause { IfErr result (LargeCause large) }
     {
         let tap = SuppliedTap::new(alloc);
-        let caller = Caller::new(alloc, options, files, Tries::new(TRIES), tap)?;
+        let caller = Caller::new_large(alloc, large, files, Tries::new(TRIES), tap)?;
         Ok(Client {
             alloc,
             caller,

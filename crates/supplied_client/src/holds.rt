@@ -1,7 +1,7 @@
 //! The answers about held tiles and counts, as C reads them.
 ghost use Rattle.std.specs.Prelude.{◌≡◌, ◌<◌, length, take};
 ghost use Rattle.std.specs.Prelude.{IsTrue, IsFalse};
-ghost use Rattle.tile_store.specs.Row.{samples_of};
+ghost use Rattle.tile_store.specs.SampleRow.{samples_of};
 ghost use Rattle.supplied_client.specs.Calls.{SaysRow, SaysTileRow, SaysHeld, SaysRelease};
 ghost use Rattle.supplied_client.specs.Calls.{SaysCounts, SaysShard};
 ghost use Rattle.supplied_client.specs.Request.{texel_of};
@@ -10,7 +10,7 @@ use crate::answer::{ANSWERED, BUSY, NO_PART, NOTHING_HELD, SMALL_BUFFER};
 use crate::client::Client;
 use image_cache::{NotReleased, TexelAt};
 use supplied_tap::SuppliedWorld;
-use tile_store::{Row, Tile};
+use tile_store::{SampleRow, Tile};
 
 /// A tile that a pass holds.
 #[repr(C)]
@@ -154,7 +154,7 @@ impl Client {
 }
 
 /// Copies a row's samples to a buffer. False if the buffer is too small.
-fn copy_row(row: &Row<'_>, out: &mut [u16]) -> bool
+fn copy_row(row: &SampleRow<'_>, out: &mut [u16]) -> bool
     ensures ok { IsTrue result
         → take (length (samples_of row.now)) out.new ≡ samples_of row.now }
     ensures err { IsFalse result

@@ -5,14 +5,14 @@ ghost use Rattle.supplied_client.specs.Batch.{SaysBatch};
 use crate::answer::{ANSWERED, BAD_REQUEST, NO_FILE, SMALL_BUFFER};
 use crate::batch::{TexBatch, TexBatchAnswer};
 use crate::client::Client;
-use texture_sys::{Batch, FileLookups, Lookups, Place};
+use texture_sys::{Batch, FileLookups, LookupPoint, Lookups};
 
 impl Client {
     /// Answers `texture_many`.
     pub fn say_many(
         &mut self,
         batch: &TexBatch,
-        places: &[Place],
+        places: &[LookupPoint],
         out: &mut [u16],
         answer: &mut TexBatchAnswer,
     ) -> u32

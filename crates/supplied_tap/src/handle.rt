@@ -4,7 +4,7 @@ ghost use Rattle.tex_world.specs.World.{last_generation};
 ghost use Rattle.supplied_tap.specs.Truth.{IsTrueLook};
 ghost use Rattle.supplied_tap.specs.SuppliedWorld.{handle_in_range};
 
-use crate::supply::Look;
+use crate::supply::FileVersion;
 use crate::world::SuppliedWorld;
 use tex_world::TapHandle;
 
@@ -21,7 +21,7 @@ pub struct SuppliedHandle {
 
 impl SuppliedHandle {
     /// A handle of a file in the generation that was supplied.
-    pub(crate) fn of(look: Look) -> SuppliedHandle
+    pub(crate) fn of(look: FileVersion) -> SuppliedHandle
         ensures file { result.file ≡ look.file }
         ensures generation { result.generation ≡ look.generation }
         ensures len { result.len ≡ look.len }
@@ -34,12 +34,12 @@ impl SuppliedHandle {
     }
 
     /// The file, generation and length of this handle.
-    pub(crate) fn look(&self) -> Look
+    pub(crate) fn look(&self) -> FileVersion
         ensures file { result.file ≡ self.now.file }
         ensures generation { result.generation ≡ self.now.generation }
         ensures len { result.len ≡ self.now.len }
     {
-        Look {
+        FileVersion {
             file: self.file,
             generation: self.generation,
             len: self.len,

@@ -9,6 +9,6 @@ mod tap;
 mod world;
 
 pub use handle::SuppliedHandle;
-pub use supply::{Look, Need, Part, RowsAt, RowsPart, Seen, SupplyError};
+pub use supply::{FileVersion, Need, RowsAt, Seen, SuppliedBytes, SuppliedRows, SupplyError};
 pub use tap::SuppliedTap;
 pub use world::SuppliedWorld;

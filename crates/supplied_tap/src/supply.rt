@@ -72,7 +72,7 @@ pub struct Seen {
 
 /// A file's generation and its length, as the tap keeps them.
 #[derive(Clone, Copy, Debug)]
-pub struct Look {
+pub struct FileVersion {
     pub file: u32,
     pub generation: u32,
     pub len: u64,
@@ -83,7 +83,7 @@ pub struct Look {
 
 /// Supplied bytes of one generation of a file, from a place on.
 #[derive(Drop)]
-pub struct Part {
+pub struct SuppliedBytes {
     pub file: u32,
     pub generation: u32,
     pub at: u64,
@@ -91,7 +91,7 @@ pub struct Part {
     ghost told: { AreTrueBytes file generation at bytes.items },
 }
 
-impl Part {
+impl SuppliedBytes {
     ghost use Rattle.supplied_tap.specs.SuppliedTap.{Covers};
 
     /// The `size` bytes of a handle's file at `at`, if this part has all of them.
@@ -116,13 +116,13 @@ impl Part {
 
 /// Supplied rows.
 #[derive(Drop)]
-pub struct RowsPart {
+pub struct SuppliedRows {
     pub place: RowsAt,
     pub bytes: Vec<u8>,
     ghost told: { AreTrueRows place bytes.items },
 }
 
-impl RowsPart {
+impl SuppliedRows {
     ghost use Rattle.supplied_tap.specs.SuppliedTap.{HasRows};
 
     /// The bytes, if they are those of these rows, `size` together.

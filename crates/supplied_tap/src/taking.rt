@@ -9,13 +9,13 @@ ghost use Rattle.supplied_tap.specs.Supply.{LookCause, LooksCause, BytesCause, R
 ghost use Rattle.supplied_tap.specs.SuppliedTap.{KeepsTap, TakesLook, TakesLooks, TakesBytes, TakesRows};
 ghost use Rattle.supplied_tap.specs.SuppliedTap.{TakesFault, Extends};
 
-use crate::supply::{Look, Need, Part, RowsAt, RowsPart, Seen, SupplyError};
+use crate::supply::{FileVersion, Need, RowsAt, Seen, SuppliedBytes, SuppliedRows, SupplyError};
 use crate::tap::{SuppliedTap, keep_spare};
 use tex_world::LAST_GENERATION;
 
 /// A file and the least generation that is needed.
 #[derive(Clone, Copy, Debug)]
-struct Wanted {
+struct NeededFile {
     file: u32,
     least: u64,
 }
@@ -57,7 +57,7 @@ impl SuppliedTap {
         if !is_generation(generation) {
             return Err(SupplyError::OtherGeneration);
         }
-        let look = Look {
+        let look = FileVersion {
             file,
             generation,
             len,
@@ -132,7 +132,7 @@ impl SuppliedTap {
             keep_spare(&mut self.spare, bytes);
             return Err(e);
         }
-        let part = Part {
+        let part = SuppliedBytes {
             file,
             generation,
             at,
@@ -158,7 +158,7 @@ impl SuppliedTap {
             keep_spare(&mut self.spare, bytes);
             return Err(e);
         }
-        if let Err(_refused) = self.rows.push(RowsPart { place, bytes }) {
+        if let Err(_refused) = self.rows.push(SuppliedRows { place, bytes }) {
             return Err(SupplyError::NoMemory);
         }
         self.need = None;
@@ -175,13 +175,13 @@ fn is_generation(generation: u32) -> bool
 }
 
 /// Keeps the looks whose generation is in range. Those for which memory is short are dropped.
-fn keep_looks(kept: &mut Vec<Look>, looks: &[Seen])
+fn keep_looks(kept: &mut Vec<FileVersion>, looks: &[Seen])
     requires told { AreTrueLooks looks.now }
     ensures { Extends kept.old.items kept.new.items }
 {
     for seen in looks {
         if is_generation(seen.generation) {
-            let look = Look {
+            let look = FileVersion {
                 file: seen.file,
                 generation: seen.generation,
                 len: seen.len,
@@ -192,14 +192,14 @@ fn keep_looks(kept: &mut Vec<Look>, looks: &[Seen])
 }
 
 /// Which freshness check is needed. If bytes are needed, a newer generation of their file will do.
-fn wanted_look(need: Option<Need>) -> Option<Wanted>
+fn wanted_look(need: Option<Need>) -> Option<NeededFile>
     ensures some { IfSome result (λ w. LacksLook need (λ file least.
         (file ≡ w.file) × (least ≡ w.least))) }
     ensures none { IsNone result → need ≡ None }
 {
     match need {
         None => None,
-        Some(Need::Look { file, least }) => Some(Wanted {
+        Some(Need::Look { file, least }) => Some(NeededFile {
             file,
             least: u64::from(least),
         }),
@@ -217,11 +217,11 @@ fn wanted_look(need: Option<Need>) -> Option<Wanted>
 }
 
 /// A newer generation of this file than the one given.
-fn above(file: u32, generation: u32) -> Wanted
+fn above(file: u32, generation: u32) -> NeededFile
     ensures file { result.file ≡ file }
     ensures least { result.least ≡ generation + 1 }
 {
-    Wanted {
+    NeededFile {
         file,
         least: u64::from(generation) + 1,
     }

@@ -7,20 +7,20 @@ ghost use Rattle.tex_world.specs.Counts.{Rises};
 ghost use Rattle.tex_world.specs.World.{IsReal};
 ghost use Rattle.tex_world.specs.Tap.{IsNew, Opens, OpenCause, AfterOpen, AfterNewest, AfterRead};
 ghost use Rattle.tex_world.specs.Tap.{ReadCause, IsFault, AreRows, HoldsRows};
+ghost use Rattle.tex_world.specs.Tap.{NamesNewer};
 ghost use Rattle.supplied_tap.specs.Truth.{AreTrueBytes, AreTrueRows};
 ghost use Rattle.supplied_tap.specs.SuppliedHandle.{handle_named};
 ghost use Rattle.supplied_tap.specs.SuppliedWorld.{supplied_files};
 ghost use Rattle.supplied_tap.specs.SuppliedTap.{tap_state, looks_of, parts_of, rows_of, HasNoSupplies};
 ghost use Rattle.supplied_tap.specs.SuppliedTap.{IsOneOf, LacksLookAt, LacksPartAt, LacksRowsAt, IsUnread};
 ghost use Rattle.supplied_tap.specs.SuppliedTap.{KeepsLooks, rows_at, bytes_needed};
-ghost use Rattle.supplied_tap.specs.SuppliedTap.{AddsFault, AddsMove, AddsLoss};
 ghost use Rattle.supplied_tap.specs.SuppliedTap.{KeepsBytes, KeepsSupplies};
 
 use crate::handle::SuppliedHandle;
-use crate::supply::{Look, Need, Part, RowsAt, RowsPart};
+use crate::supply::{FileVersion, Need, RowsAt, SuppliedBytes, SuppliedRows};
 use crate::world::SuppliedWorld;
 use std::alloc::Global;
-use tex_world::{Failed, OpenError, ReadError, Tap, TapHandle};
+use tex_world::{Failed, OpenError, ReadError, Tap, TapCounters, TapHandle};
 
 /// How many buffers are kept for the next supplies, and how large each may be in bytes.
 const MAX_SPARE: usize = 8;
@@ -32,21 +32,15 @@ const MAX_SPARE_BYTES: usize = 262144;
 #[derive(Drop)]
 pub struct SuppliedTap {
     pub(crate) alloc: Global,
-    pub(crate) looks: Vec<Look>,
-    pub(crate) parts: Vec<Part>,
-    pub(crate) rows: Vec<RowsPart>,
+    pub(crate) looks: Vec<FileVersion>,
+    pub(crate) parts: Vec<SuppliedBytes>,
+    pub(crate) rows: Vec<SuppliedRows>,
     /// Used buffers, kept for the next supplies.
     pub(crate) spare: Vec<Vec<u8>>,
     pub(crate) need: Option<Need>,
     /// Whether the caller said that what is needed cannot be read.
     pub(crate) failed: bool,
-    faults: u64,
-    calls: u64,
-    opens: u64,
-    asks: u64,
-    moves: u64,
-    lost: u64,
-    newest: (u32, u32),
+    counters: TapCounters,
 }
 
 impl SuppliedTap {
@@ -63,13 +57,7 @@ impl SuppliedTap {
             spare: Vec::new(alloc),
             need: None,
             failed: false,
-            faults: 0,
-            calls: 0,
-            opens: 0,
-            asks: 0,
-            moves: 0,
-            lost: 0,
-            newest: (0, 0),
+            counters: TapCounters::new(),
         }
     }
 
@@ -112,35 +100,9 @@ impl SuppliedTap {
         }
     }
 
-    /// Counts an I/O error.
-    fn count_fault(&mut self)
-        ensures adds { AddsFault (tap_state self.old) (tap_state self.new) }
-        ensures supplies { KeepsSupplies self.old self.new }
-        ensures need { self.new.need ≡ self.old.need }
-    {
-        self.faults = self.faults.saturating_add(1);
-    }
-
-    /// Counts that a newer generation was met.
-    fn count_move(&mut self)
-        ensures adds { AddsMove (tap_state self.old) (tap_state self.new) }
-        ensures supplies { KeepsSupplies self.old self.new }
-    {
-        self.moves = self.moves.saturating_add(1);
-    }
-
-    /// Counts a read that failed because a newer generation was met.
-    fn count_loss(&mut self)
-        ensures adds { AddsLoss (tap_state self.old) (tap_state self.new) }
-        ensures supplies { KeepsSupplies self.old self.new }
-    {
-        self.moves = self.moves.saturating_add(1);
-        self.lost = self.lost.saturating_add(1);
-    }
-
-    /// Records what is needed, unless the caller said that it cannot be read. Counts an I/O error.
+    /// Records what is needed, unless the caller said that it cannot be read.
     fn lack(&mut self, need: Need)
-        ensures adds { AddsFault (tap_state self.old) (tap_state self.new) }
+        ensures state { tap_state self.new ≡ tap_state self.old }
         ensures supplies { KeepsSupplies self.old self.new }
         ensures need { self.old.failed ≡ false → self.new.need ≡ Some need }
         ensures failed { self.old.failed ≡ true → self.new.need ≡ self.old.need }
@@ -148,11 +110,10 @@ impl SuppliedTap {
         if !self.failed {
             self.need = Some(need);
         }
-        self.count_fault();
     }
 
     /// The last supplied look at this file whose generation is at least `least`.
-    fn look(&self, file: u32, least: u32) -> Option<Look>
+    fn look(&self, file: u32, least: u32) -> Option<FileVersion>
         ensures some { IfSome result (λ look. IsOneOf look (looks_of self.now)
             × (look.file ≡ file) × (least ≤ look.generation)) }
         ensures none { IsNone result → LacksLookAt (looks_of self.now) file least }
@@ -192,7 +153,7 @@ impl SuppliedTap {
 }
 
 /// The last of the looks at this file whose generation is at least `least`.
-fn latest_look(looks: &[Look], file: u32, least: u32) -> Option<Look>
+fn latest_look(looks: &[FileVersion], file: u32, least: u32) -> Option<FileVersion>
     ensures some { IfSome result (λ look. IsOneOf look looks.now
         × (look.file ≡ file) × (least ≤ look.generation)) }
     ensures none { IsNone result → LacksLookAt looks.now file least }
@@ -209,7 +170,7 @@ fn latest_look(looks: &[Look], file: u32, least: u32) -> Option<Look>
 
 /// The `size` bytes of a handle's file at `at`, if one of the parts has all of them.
 fn supplied<'a>(
-    parts: &'a [Part],
+    parts: &'a [SuppliedBytes],
     handle: &SuppliedHandle,
     at: u64,
     size: usize,
@@ -228,7 +189,7 @@ fn supplied<'a>(
 }
 
 /// The bytes of these rows, `size` together, if they were supplied.
-fn supplied_rows<'a>(parts: &'a [RowsPart], place: &RowsAt, size: usize) -> Option<&'a [u8]>
+fn supplied_rows<'a>(parts: &'a [SuppliedRows], place: &RowsAt, size: usize) -> Option<&'a [u8]>
     ensures long { IfSome result (λ bytes. length bytes.now ≡ size) }
     ensures told { IfSome result (λ bytes. AreTrueRows place.now bytes.now) }
     ensures none { IsNone result → LacksRowsAt parts.now place.now size }
@@ -242,7 +203,7 @@ fn supplied_rows<'a>(parts: &'a [RowsPart], place: &RowsAt, size: usize) -> Opti
 }
 
 /// Drops supplied parts and keeps their buffers.
-fn spare_parts(parts: &mut Vec<Part>, spare: &mut Vec<Vec<u8>>)
+fn spare_parts(parts: &mut Vec<SuppliedBytes>, spare: &mut Vec<Vec<u8>>)
     ensures { parts.new.items ≡ [] }
 {
     for _ in 0..parts.len() {
@@ -254,7 +215,7 @@ fn spare_parts(parts: &mut Vec<Part>, spare: &mut Vec<Vec<u8>>)
 }
 
 /// Drops supplied rows and keeps their buffers.
-fn spare_rows(rows: &mut Vec<RowsPart>, spare: &mut Vec<Vec<u8>>)
+fn spare_rows(rows: &mut Vec<SuppliedRows>, spare: &mut Vec<Vec<u8>>)
     ensures { rows.new.items ≡ [] }
 {
     for _ in 0..rows.len() {
@@ -291,20 +252,15 @@ impl Tap for SuppliedTap {
             → self.new.need ≡ Some (Need.Look file least)) }
         ensures supplies { KeepsSupplies self.old self.new }
     {
-        self.calls = self.calls.saturating_add(1);
-        self.opens = self.opens.saturating_add(1);
-        match self.look(file, least) {
-            Some(look) => {
-                if 0 < least && least < look.generation {
-                    self.count_move();
-                }
-                Ok(SuppliedHandle::of(look))
-            }
+        let opened = match self.look(file, least) {
+            Some(look) => Ok(SuppliedHandle::of(look)),
             None => {
                 self.lack(Need::Look { file, least });
                 Err(OpenError::Failed)
             }
-        }
+        };
+        self.counters.count_open(least, &opened);
+        opened
     }
 
     /// Answers from the last supplied look at the file.
@@ -320,22 +276,20 @@ impl Tap for SuppliedTap {
             → self.new.need ≡ Some (Need.Look file least)) }
         ensures supplies { KeepsSupplies self.old self.new }
     {
-        self.calls = self.calls.saturating_add(1);
-        match self.look(file, least) {
-            Some(look) => {
-                self.asks = self.asks.saturating_add(1);
-                self.newest = (file, look.generation);
-                Ok(look.generation)
-            }
+        let newest = match self.look(file, least) {
+            Some(look) => Ok(look.generation),
             None => {
                 self.lack(Need::Look { file, least });
                 Err(Failed)
             }
-        }
+        };
+        self.counters.count_newest(file, newest);
+        newest
     }
 
     /// Answers with supplied bytes of the handle's generation. They are `Gone` if a newer
     /// generation was supplied.
+    #[tactic(auto, using(tex_world::proofs::TapLemmas::read_cause))]
     fn read_at(&mut self, h: &mut SuppliedHandle, at: u64, buf: &mut [u8]) -> Result<(), ReadError>
         requires { at + length buf.old ≤ (handle_named h.old).len }
         ensures bytes { OnOk result (ForSome
@@ -355,19 +309,13 @@ impl Tap for SuppliedTap {
         ensures keeps { KeepsBytes self.old self.new }
         ensures looks { KeepsLooks self.old self.new }
     {
-        self.calls = self.calls.saturating_add(1);
-        if let Some(look) = self.look(h.file(), h.generation() + 1) {
-            self.count_loss();
-            return Err(ReadError::Gone(look.generation));
-        }
-        if self.fill(h, at, buf) {
-            return Ok(());
-        }
-        self.lack_bytes(h, at, buf.len());
-        Err(ReadError::Failed)
+        let read = self.take_bytes(h, at, buf);
+        self.counters.count_read(read);
+        read
     }
 
     /// Like `read_at`, for rows. If they were not supplied, all of them are needed.
+    #[tactic(auto, using(tex_world::proofs::TapLemmas::read_cause))]
     fn read_rows(
         &mut self,
         h: &mut SuppliedHandle,
@@ -394,11 +342,6 @@ impl Tap for SuppliedTap {
         ensures keeps { KeepsBytes self.old self.new }
         ensures looks { KeepsLooks self.old self.new }
     {
-        self.calls = self.calls.saturating_add(1);
-        if let Some(look) = self.look(h.file(), h.generation() + 1) {
-            self.count_loss();
-            return Err(ReadError::Gone(look.generation));
-        }
         let rows = RowsAt {
             file: h.file(),
             generation: h.generation(),
@@ -406,6 +349,57 @@ impl Tap for SuppliedTap {
             stride,
             row: row as u64,
         };
+        let read = self.take_rows(h, rows, buf);
+        self.counters.count_read(read);
+        read
+    }
+}
+
+impl SuppliedTap {
+    /// Copies supplied bytes of the handle's generation. They are `Gone` if a newer generation was
+    /// supplied. If they are missing, they are needed.
+    fn take_bytes(&mut self, h: &SuppliedHandle, at: u64, buf: &mut [u8]) -> Result<(), ReadError>
+        requires { at + length buf.old ≤ (handle_named h.now).len }
+        ensures bytes { OnOk result (ForSome
+            (supplied_files.held (handle_named h.now).file (handle_named h.now).generation)
+            (λ bytes. EachIndex buf.new (λ k.
+            slice_index buf.new k ≡ slice_index bytes (at + k)))) }
+        ensures newer { IfErr result (NamesNewer supplied_files (handle_named h.now)) }
+        ensures state { tap_state self.new ≡ tap_state self.old }
+        ensures unread { IfErr result (IsUnread self.old (handle_named h.now).file
+            (LacksPartAt (parts_of self.old) (handle_named h.now) at (length buf.old))) }
+        ensures needs { IfErr result (λ e. IsFault e → self.old.failed ≡ false → self.new.need
+            ≡ Some (bytes_needed (handle_named h.now) at (length buf.old))) }
+        ensures keeps { KeepsBytes self.old self.new }
+        ensures looks { KeepsLooks self.old self.new }
+    {
+        self.stay(h)?;
+        if self.fill(h, at, buf) {
+            return Ok(());
+        }
+        self.lack_bytes(h, at, buf.len());
+        Err(ReadError::Failed)
+    }
+
+    /// Like `take_bytes`, for rows.
+    fn take_rows(
+        &mut self,
+        h: &SuppliedHandle,
+        rows: RowsAt,
+        buf: &mut [u8],
+    ) -> Result<(), ReadError>
+        requires { rows ≡ rows_at (handle_named h.now) rows.at rows.stride rows.row }
+        ensures rows { OnOk result (AreTrueRows rows buf.new) }
+        ensures newer { IfErr result (NamesNewer supplied_files (handle_named h.now)) }
+        ensures state { tap_state self.new ≡ tap_state self.old }
+        ensures unread { IfErr result (IsUnread self.old (handle_named h.now).file
+            (LacksRowsAt (rows_of self.old) rows (length buf.old))) }
+        ensures needs { IfErr result (λ e. IsFault e → self.old.failed ≡ false → self.new.need
+            ≡ Some (Need.Rows rows (length buf.old))) }
+        ensures keeps { KeepsBytes self.old self.new }
+        ensures looks { KeepsLooks self.old self.new }
+    {
+        self.stay(h)?;
         if self.fill_rows(&rows, buf) {
             return Ok(());
         }
@@ -416,16 +410,26 @@ impl Tap for SuppliedTap {
         });
         Err(ReadError::Failed)
     }
-}
 
-impl SuppliedTap {
+    /// Succeeds unless a newer generation than the handle's was supplied. The error names it.
+    fn stay(&self, h: &SuppliedHandle) -> Result<(), ReadError>
+        ensures newer { IfErr result (NamesNewer supplied_files (handle_named h.now)) }
+        ensures seen { IfErr result (IsUnread self.now (handle_named h.now).file ⊥) }
+        ensures gone { IfErr result (λ e. IsFault e → ⊥) }
+    {
+        match self.look(h.file(), h.generation() + 1) {
+            Some(look) => Err(ReadError::Gone(look.generation)),
+            None => Ok(()),
+        }
+    }
+
     /// Records that `size` bytes of a handle's file are needed. The handle's generation and length
     /// are kept too, so that the repeated call can open the file again.
     fn lack_bytes(&mut self, h: &SuppliedHandle, at: u64, size: usize)
         requires inside { at + size ≤ h.now.len }
         ensures needs { self.old.failed ≡ false
             → self.new.need ≡ Some (bytes_needed (handle_named h.now) at size) }
-        ensures adds { AddsFault (tap_state self.old) (tap_state self.new) }
+        ensures state { tap_state self.new ≡ tap_state self.old }
         ensures bytes { KeepsBytes self.old self.new }
         ensures looks { KeepsLooks self.old self.new }
     {

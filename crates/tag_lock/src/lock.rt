@@ -1,7 +1,7 @@
 //! The lock.
 ghost use Rattle.std.specs.Prelude.{◌≡◌, ℕ, IfSome, IfOk, IfErr};
 
-use crate::place::Place;
+use crate::place::LockedValue;
 use crate::rule::TagRule;
 use counted_slot::{Counted, FREE, TAKEN};
 use std::marker::Model;
@@ -19,7 +19,7 @@ const OUT: u64 = 0x1_0000_0000;
 #[derive(Drop)]
 pub struct TagLock<T, F: TagRule<T>> {
     tag: u64,
-    slot: Counted<Place<T, F>>,
+    slot: Counted<LockedValue<T, F>>,
 }
 
 /// A `put` gave up, and returns the value. It has no `Drop`, so that no caller can lose the value
@@ -45,7 +45,7 @@ impl<T, F: TagRule<T>> TagLock<T, F> {
     {
         TagLock {
             tag,
-            slot: Counted::new(Place::of(value), &tag),
+            slot: Counted::new(LockedValue::of(value), &tag),
         }
     }
 
@@ -111,7 +111,7 @@ impl<T, F: TagRule<T>> TagLock<T, F> {
             claim.done();
             return None;
         }
-        claim.put(Place::empty(), OUT).into_value()
+        claim.put(LockedValue::empty(), OUT).into_value()
     }
 
     /// Tries once. It writes the word only if it has just read that the value is out.
@@ -127,7 +127,7 @@ impl<T, F: TagRule<T>> TagLock<T, F> {
             claim.done();
             return Err(value);
         }
-        match claim.put(Place::of(value), HOME).into_value() {
+        match claim.put(LockedValue::of(value), HOME).into_value() {
             None => Ok(()),
             // cannot happen: the lock is empty while it has that word
             Some(other) => Err(other),

@@ -7,31 +7,31 @@ use std::marker::PhantomData;
 
 /// The value in the lock; `None` while it is taken out.
 #[derive(Drop)]
-pub(crate) struct Place<T, F: TagRule<T>> {
+pub(crate) struct LockedValue<T, F: TagRule<T>> {
     value: Option<T>,
     rule: PhantomData<F>,
 }
 
-impl<T, F: TagRule<T>> Fits for Place<T, F> {
+impl<T, F: TagRule<T>> Fits for LockedValue<T, F> {
     type Tag = u64;
 
     ghost fits = { λ tag place. IfSome place.value (F.fits tag) };
 }
 
-impl<T, F: TagRule<T>> Place<T, F> {
-    pub(crate) fn of(value: T) -> Place<T, F>
+impl<T, F: TagRule<T>> LockedValue<T, F> {
+    pub(crate) fn of(value: T) -> LockedValue<T, F>
         ensures { result.value ≡ Some value }
     {
-        Place {
+        LockedValue {
             value: Some(value),
             rule: PhantomData,
         }
     }
 
-    pub(crate) fn empty() -> Place<T, F>
+    pub(crate) fn empty() -> LockedValue<T, F>
         ensures { result.value ≡ None }
     {
-        Place {
+        LockedValue {
             value: None,
             rule: PhantomData,
         }
@@ -40,7 +40,7 @@ impl<T, F: TagRule<T>> Place<T, F> {
     pub(crate) fn into_value(self) -> Option<T>
         ensures { result ≡ self.value }
     {
-        let Place { value, rule: _ } = self;
+        let LockedValue { value, rule: _ } = self;
         value
     }
 }

@@ -8,14 +8,14 @@ use Rattle.std_heap.specs.contracts.GlobalAllocator.TheImpl.{ghosts, dict}
 use Rattle.std_heap.proofs.Global.TheLaws as heap
 use Rattle.supplied_client.specs.contracts.client.Client as Client
 use Rattle.supplied_client.proofs.client.Client.TheLaws as client
-use Rattle.tex_c.specs.contracts.parts.Parts as Parts
+use Rattle.tex_c.specs.contracts.parts.BoxParts as BoxParts
 use Rattle.tex_c.specs.contracts.held.Held as Held
 
 abbrev pub E : Bx
 E = record { row = Client.the_row; laws = client.the_row_laws; al = record { row = Heap.the_row; laws = heap.the_row_laws; g = ghosts; d = dict; drops = impl [] tnil dnil } }
 
 abbrev pub FromParts : Slot 0
-FromParts = plain (λ _. Parts.the_row Client.the_row Heap.the_row ghosts)
+FromParts = plain (λ _. BoxParts.the_row Client.the_row Heap.the_row ghosts)
 
 abbrev pub FromHeld : Slot 0
 FromHeld = plain (λ _. Held.the_row)

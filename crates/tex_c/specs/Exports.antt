@@ -5,8 +5,8 @@ use Rattle.std_alloc.specs.Vec.{vec_ptr}
 use Rattle.tex_world.specs.World.{max_files}
 use Rattle.image_cache.specs.Pass.{IsNewCache, IsFirstPass, IsSecondPass, PassAfterSplit}
 use Rattle.tile_source.specs.Pass.{KeepsAllBut, nothing, no_counts}
-use Rattle.image_cache.specs.Options.{first_bad}
-use Rattle.image_cache.specs.declared.options.Options.{Options}
+use Rattle.image_cache.specs.Options.{first_bad_large, opened_as}
+use Rattle.image_cache.specs.declared.options.LargeOptions.{LargeOptions}
 use Rattle.supplied_client.specs.declared.answer.TexAnswer.{TexAnswer}
 use Rattle.supplied_client.specs.declared.bytes.Bytes.{Bytes}
 use Rattle.tex_c.specs.declared.options.TexOptions.{TexOptions}
@@ -16,19 +16,22 @@ use Rattle.supplied_tap.specs.SuppliedTap.{HasNoSupplies}
 -- ---- a cache and its passes
 
 -- the cache's options, from those that C wrote
-abbrev pub options_of : TexOptions → Options
-options_of o = record {
-  budget = o.budget;
-  shards = o.shards;
-  passes = o.passes;
-  handles = o.handles;
-  cut = record { autotile = o.autotile; automip = o.automip };
-  slots = o.slots;
+abbrev pub large_of : TexOptions → LargeOptions
+large_of o = record {
+  options = record {
+    budget = o.budget;
+    shards = o.shards;
+    passes = o.passes;
+    handles = o.handles;
+    cut = record { autotile = o.autotile; automip = o.automip };
+    slots = o.slots;
+  };
+  tiles_per_shard = o.tiles_per_shard;
 }
 
 -- a new cache of `files` files, and its first pass, for which nothing is supplied
 pub record IsMade (o : TexOptions) (files : ℕ) (made : ClientState) : Type 0 where
-  pub cache : IsNewCache (options_of o) files made.cache
+  pub cache : IsNewCache (opened_as (large_of o)) files made.cache
   pub pass : IsFirstPass made.cache made.pass
   pub none : HasNoSupplies made.tap
   pub twice : made.twice ≡ no_counts
@@ -36,7 +39,7 @@ pub record IsMade (o : TexOptions) (files : ℕ) (made : ClientState) : Type 0 w
 -- why no cache was made: too many files, an option out of range, or out of memory
 abbrev pub IsNotMade : TexOptions → ℕ → ℕ → TexAnswer → Type 0
 IsNotMade o files code answer = ((code ≡ 4) × (max_files < files))
-    ⊎ (((code ≡ 2) × (first_bad (options_of o) ≡ Some answer.detail)) ⊎ (code ≡ 18))
+    ⊎ (((code ≡ 2) × (first_bad_large (large_of o) ≡ Some answer.detail)) ⊎ (code ≡ 18))
 
 -- a second pass of the same cache, for which nothing is supplied
 pub record IsSplitOff (old second : ClientState) : Type 0 where

@@ -37,7 +37,7 @@ pub extern "C" fn tex_c_new(
     if MAX_FILES < files {
         return BAD_REQUEST;
     }
-    match Client::new(alloc, options.options(), files) {
+    match Client::new(alloc, options.large(), files) {
         Ok(client) => match Box::new(alloc, client) {
             Ok(client) => {
                 *to = Held::of(client);

@@ -6,7 +6,7 @@ ghost use Rattle.supplied_client.specs.Client.{LeavesFile};
 
 use crate::held::Held;
 use supplied_client::{TexBatch, TexBatchAnswer};
-use texture_sys::Place;
+use texture_sys::LookupPoint;
 
 /// Looks up the values at several places of one file, on one generation. The values of each lookup
 /// follow those of the one before.
@@ -15,7 +15,7 @@ pub extern "C" fn tex_c_texture_many(
     from: Held,
     to: &mut Held,
     batch: &TexBatch,
-    places: &[Place],
+    places: &[LookupPoint],
     out: &mut [u16],
     answer: &mut TexBatchAnswer,
 ) -> u32

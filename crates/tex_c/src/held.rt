@@ -3,7 +3,7 @@ ghost use Rattle.std.specs.Prelude.{◌≡◌, Option, Some, IsSome};
 ghost use Rattle.supplied_client.specs.Client.{ClientState};
 ghost use Rattle.tex_c.specs.Held.{held_coded, held_owns};
 
-use crate::parts::Parts;
+use crate::parts::BoxParts;
 use std::alloc::Global;
 use std::marker::Model;
 use supplied_client::Client;
@@ -27,7 +27,7 @@ impl Held {
     pub(crate) fn of(client: Box<Client>) -> Held
         ensures { result.value ≡ Some client.value }
     {
-        Held::of_parts(Parts::of(client))
+        Held::of_parts(BoxParts::of(client))
     }
 
     /// Takes the client out of its handle.
@@ -38,22 +38,22 @@ impl Held {
         self.into_parts().into_box()
     }
 
-    fn of_parts(parts: Parts<Client, Global>) -> Held
+    fn of_parts(parts: BoxParts<Client, Global>) -> Held
         ensures { result.value ≡ Some parts.value }
     {
-        let Parts { ptr, alloc } = parts;
+        let BoxParts { ptr, alloc } = parts;
         Held {
             at: ptr as *mut u8,
             alloc,
         }
     }
 
-    fn into_parts(self) -> Parts<Client, Global>
+    fn into_parts(self) -> BoxParts<Client, Global>
         requires { IsSome self.value }
         ensures { self.value ≡ Some result.value }
     {
         let Held { at, alloc } = self;
-        Parts {
+        BoxParts {
             ptr: at as *mut Client,
             alloc,
         }

@@ -3,7 +3,7 @@ ghost use Rattle.std.specs.Prelude.{◌≡◌, Option, Some, IsSome};
 ghost use Rattle.supplied_client.specs.declared.bytes.Bytes.{Bytes};
 ghost use Rattle.tex_c.specs.Room.{room_coded, room_owns};
 
-use crate::parts::Parts;
+use crate::parts::BoxParts;
 use std::alloc::Global;
 use std::marker::Model;
 use supplied_client::Bytes;
@@ -27,7 +27,7 @@ impl Room {
     pub(crate) fn of(bytes: Box<Bytes>) -> Room
         ensures { result.value ≡ Some bytes.value }
     {
-        Room::of_parts(Parts::of(bytes))
+        Room::of_parts(BoxParts::of(bytes))
     }
 
     /// Takes the bytes, still in their box, out of the buffer.
@@ -46,22 +46,22 @@ impl Room {
         Box::into_inner(self.into_box())
     }
 
-    fn of_parts(parts: Parts<Bytes, Global>) -> Room
+    fn of_parts(parts: BoxParts<Bytes, Global>) -> Room
         ensures { result.value ≡ Some parts.value }
     {
-        let Parts { ptr, alloc } = parts;
+        let BoxParts { ptr, alloc } = parts;
         Room {
             at: ptr as *mut u8,
             alloc,
         }
     }
 
-    fn into_parts(self) -> Parts<Bytes, Global>
+    fn into_parts(self) -> BoxParts<Bytes, Global>
         requires { IsSome self.value }
         ensures { self.value ≡ Some result.value }
     {
         let Room { at, alloc } = self;
-        Parts {
+        BoxParts {
             ptr: at as *mut Bytes,
             alloc,
         }

@@ -5,11 +5,11 @@ use Rattle.std.specs.Option.{ForSome}
 use Rattle.tex_world.specs.Counts.{Rises}
 use Rattle.tex_world.specs.World.{Files, IsWorld}
 use Rattle.tex_world.specs.Folder.{FolderState, IsFolder}
-use Rattle.tex_make.specs.declared.ending.Ending.{Ending}
-use Rattle.tex_make.specs.declared.ending.Ending.TheVariants.{Failed, NoMemory, NoSuchFile}
-use Rattle.tex_make.specs.declared.ending.Ending.TheVariants.{BadFile, TooLarge, Gone, TooMany}
+use Rattle.tex_make.specs.declared.ending.MakeError.{MakeError}
+use Rattle.tex_make.specs.declared.ending.MakeError.TheVariants.{Failed, NoMemory, NoSuchFile}
+use Rattle.tex_make.specs.declared.ending.MakeError.TheVariants.{BadFile, TooLarge, Gone, TooMany}
 use Rattle.tex_make.specs.Words.{Wanted}
-use Rattle.tex_make.specs.Ending.{status_of}
+use Rattle.tex_make.specs.MakeError.{status_of}
 use Rattle.tex_make.specs.Reading.{IsSource, IsLargeSource, IsBadSource}
 use Rattle.tex_make.specs.Make.{Around, Reads, HasCause, HasSource, StaysAt, IsCalm}
 
@@ -53,7 +53,7 @@ module _ (files : Files) (world : IsWorld files) (asked : Wanted) (folder : Fold
 
 -- the ending is out of memory
 pub ending_is : (files : Files) → IsWorld files → (asked : Wanted) (old new : Around)
-    → IsFolder files new.folder → HasSource files asked → IsCalm old new → (ending : Ending)
+    → IsFolder files new.folder → HasSource files asked → IsCalm old new → (ending : MakeError)
     → HasCause files asked old.folder new.folder ending → status_of ending ≡ 6
 ending_is files world asked old new lawful source calm Failed cause =
     absurd (stays old.folder.faults new.folder.faults calm.faults cause)

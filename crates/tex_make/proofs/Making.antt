@@ -2,7 +2,7 @@
 use Rattle.std.proofs.Common.{◌≡◌, ℕ, ◌<◌, ◌≤◌, List, IsTrue, sym, ap, ◌∙◌, subst, inl, inr, arith}
 use Rattle.tex_world.specs.World.{Files}
 use Rattle.tex_world.specs.Stream.{Appends, AppendsPart}
-use Rattle.tex_make.specs.declared.ending.Ending.TheVariants.{NoMemory}
+use Rattle.tex_make.specs.declared.ending.MakeError.TheVariants.{NoMemory}
 use Rattle.tex_make.specs.declared.picture.Pyramid.{Pyramid}
 use Rattle.tex_make.specs.Good.{IsTextureOf}
 use Rattle.tex_make.specs.Make.{Around, Reads, Makes, LacksFile, WritesTexture, WritesPart, LeavesFolder}

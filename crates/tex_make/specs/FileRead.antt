@@ -4,9 +4,9 @@ use Rattle.std.specs.Option.{ForSome}
 use Rattle.tex_world.specs.Counts.{Rises, RisesByOne}
 use Rattle.tex_world.specs.World.{Files, IsReal}
 use Rattle.tex_world.specs.Tap.{TapState}
-use Rattle.tex_make.specs.declared.ending.Ending.{Ending}
-use Rattle.tex_make.specs.declared.ending.Ending.TheVariants.{Failed, NoMemory, NoSuchFile}
-use Rattle.tex_make.specs.declared.ending.Ending.TheVariants.{BadFile, TooLarge, Gone, TooMany}
+use Rattle.tex_make.specs.declared.ending.MakeError.{MakeError}
+use Rattle.tex_make.specs.declared.ending.MakeError.TheVariants.{Failed, NoMemory, NoSuchFile}
+use Rattle.tex_make.specs.declared.ending.MakeError.TheVariants.{BadFile, TooLarge, Gone, TooMany}
 use Rattle.tex_make.specs.declared.picture.Pyramid.{Pyramid}
 use Rattle.tex_make.specs.Reading.{IsLargeSource, IsBadSource, IsPictureOf}
 
@@ -18,7 +18,7 @@ pub record IsReadOf (files : Files) (file : ℕ) (fact : List ℕ → Type 0) : 
 
 -- The image is that of the file, or the ending has its cause. If the file was changed, a read met the
 -- newer generation, and no open did.
-abbrev pub ReadsFile : Files → ℕ → TapState → TapState → Result Pyramid Ending → Type 0
+abbrev pub ReadsFile : Files → ℕ → TapState → TapState → Result Pyramid MakeError → Type 0
 ReadsFile files file old new (Ok pyramid) = IsReadOf files file (λ bytes. IsPictureOf bytes pyramid)
 ReadsFile files file old new (Err Failed) = Rises old.faults new.faults
 ReadsFile files file old new (Err NoMemory) = ⊤
@@ -29,11 +29,11 @@ ReadsFile files file old new (Err NoSuchFile) = ⊥
 ReadsFile files file old new (Err TooMany) = ⊥
 
 -- A newer generation was met only if that is the ending. So nothing is read again after that.
-abbrev pub MovesOnlyGone : ℕ → ℕ → Result Pyramid Ending → Type 0
+abbrev pub MovesOnlyGone : ℕ → ℕ → Result Pyramid MakeError → Type 0
 MovesOnlyGone old new result = (result ≡ Err Gone → ⊥) → new ≡ old
 
 -- If the image was read, no call of the tap failed. So no call was tried again.
-abbrev pub FaultsOnlyFailed : TapState → TapState → Result Pyramid Ending → Type 0
+abbrev pub FaultsOnlyFailed : TapState → TapState → Result Pyramid MakeError → Type 0
 FaultsOnlyFailed old new result = OnOk result (new.faults ≡ old.faults)
 
 -- The file was opened once, and no count of the tap that a folder takes over has fallen.

@@ -12,7 +12,7 @@ pub mod Sink
 pub mod Words
 pub mod Asked
 pub mod Status
-pub mod Ending
+pub mod MakeError
 pub mod Reading
 pub mod Stored
 pub mod FileRead

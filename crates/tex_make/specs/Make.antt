@@ -8,11 +8,11 @@ use Rattle.tex_world.specs.Counts.{last_count, Rises, RisesByOne}
 use Rattle.tex_world.specs.World.{Files}
 use Rattle.tex_world.specs.Folder.{FolderState}
 use Rattle.tex_world.specs.Stream.{Appends, AppendsPart}
-use Rattle.tex_make.specs.declared.ending.Ending.{Ending}
-use Rattle.tex_make.specs.declared.ending.Ending.TheVariants.{Failed, NoMemory, NoSuchFile}
-use Rattle.tex_make.specs.declared.ending.Ending.TheVariants.{BadFile, TooLarge, Gone, TooMany}
+use Rattle.tex_make.specs.declared.ending.MakeError.{MakeError}
+use Rattle.tex_make.specs.declared.ending.MakeError.TheVariants.{Failed, NoMemory, NoSuchFile}
+use Rattle.tex_make.specs.declared.ending.MakeError.TheVariants.{BadFile, TooLarge, Gone, TooMany}
 use Rattle.tex_make.specs.declared.picture.Pyramid.{Pyramid}
-use Rattle.tex_make.specs.Ending.{status_of}
+use Rattle.tex_make.specs.MakeError.{status_of}
 use Rattle.tex_make.specs.FileRead.{IsReadOf}
 use Rattle.tex_make.specs.Words.{Wanted, wanted_in}
 use Rattle.tex_make.specs.Texture.{made_of}
@@ -61,7 +61,7 @@ pub record HasTooMany (files : Files) (folder : FolderState) : Type 0 where
   pub untold : IsTrue files.tells → ⊥
 
 -- why nothing was written
-abbrev pub HasCause : Files → Wanted → FolderState → FolderState → Ending → Type 0
+abbrev pub HasCause : Files → Wanted → FolderState → FolderState → MakeError → Type 0
 HasCause files asked old new Failed = Rises old.faults new.faults
 HasCause files asked old new NoMemory = ⊤
 HasCause files asked old new NoSuchFile = LacksFile asked new
@@ -71,14 +71,14 @@ HasCause files asked old new Gone = Rises old.moves new.moves
 HasCause files asked old new TooMany = HasTooMany files new
 
 -- the image is that of the requested file, or the ending has its cause
-abbrev pub ReadsPicture : Files → Wanted → FolderState → FolderState → Result Pyramid Ending
+abbrev pub ReadsPicture : Files → Wanted → FolderState → FolderState → Result Pyramid MakeError
     → Type 0
 ReadsPicture files asked old new (Ok pyramid) =
     Reads files asked new (λ bytes. IsPictureOf bytes pyramid)
 ReadsPicture files asked old new (Err ending) = HasCause files asked old new ending
 
 -- the image is that of the file with a number, or the ending has its cause
-abbrev pub ReadsOf : Files → ℕ → FolderState → FolderState → Result Pyramid Ending → Type 0
+abbrev pub ReadsOf : Files → ℕ → FolderState → FolderState → Result Pyramid MakeError → Type 0
 ReadsOf files file old new (Ok pyramid) = IsReadOf files file (λ bytes. IsPictureOf bytes pyramid)
 ReadsOf files file old new (Err Failed) = Rises old.faults new.faults
 ReadsOf files file old new (Err NoMemory) = ⊤
@@ -121,7 +121,7 @@ pub record BreaksOff (files : Files) (asked : Wanted) (old new : Around) : Type 
 
 -- An ending has its cause, and nothing was written.
 pub record Stops (files : Files) (asked : Wanted) (old new : Around) (ends : ℕ) : Type 0 where
-  pub ending : Ending
+  pub ending : MakeError
   pub of_status : status_of ending ≡ ends
   pub cause : HasCause files asked old.folder new.folder ending
   pub sink : new.sink ≡ old.sink

@@ -16,7 +16,7 @@ pub const NO_MEMORY: u8 = 6;
 
 /// Why nothing was written.
 #[derive(Clone, Copy, Debug, PartialEq, Eq)]
-pub(crate) enum Ending {
+pub(crate) enum MakeError {
     /// The folder or its tap failed.
     Failed,
     /// Out of memory.
@@ -33,21 +33,21 @@ pub(crate) enum Ending {
     TooMany,
 }
 
-impl Ending {
-    ghost use Rattle.tex_make.specs.Ending.{status_of};
+impl MakeError {
+    ghost use Rattle.tex_make.specs.MakeError.{status_of};
 
     /// The exit status.
     pub(crate) fn status(self) -> u8
         ensures { result ≡ status_of self }
     {
         match self {
-            Ending::Failed => 4,
-            Ending::NoMemory => NO_MEMORY,
-            Ending::NoSuchFile => 7,
-            Ending::BadFile => 8,
-            Ending::TooLarge => 9,
-            Ending::Gone => 10,
-            Ending::TooMany => 11,
+            MakeError::Failed => 4,
+            MakeError::NoMemory => NO_MEMORY,
+            MakeError::NoSuchFile => 7,
+            MakeError::BadFile => 8,
+            MakeError::TooLarge => 9,
+            MakeError::Gone => 10,
+            MakeError::TooMany => 11,
         }
     }
 }

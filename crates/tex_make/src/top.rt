@@ -2,7 +2,7 @@
 
 ghost use Rattle.std.specs.Prelude.{◌≡◌, ◌≤◌, ◌↔◌, IsTrue, IfOk, Err};
 ghost use Rattle.tex_world.specs.World.{IsFile};
-ghost use Rattle.tex_make.specs.declared.ending.Ending.TheVariants.{NoSuchFile, TooMany};
+ghost use Rattle.tex_make.specs.declared.ending.MakeError.TheVariants.{NoSuchFile, TooMany};
 ghost use Rattle.tex_make.specs.Asked.{shown_asked};
 ghost use Rattle.tex_make.specs.FileRead.{ReadsFile, LeavesTap, MovesOnlyGone, FaultsOnlyFailed};
 ghost use Rattle.tex_make.specs.Make.{ReadsPicture, LacksFile, LeavesFolder, EndsAs, Completes};
@@ -13,7 +13,7 @@ ghost use Rattle.tex_make.specs.Pyramid.{seen};
 ghost use Rattle.tex_make.specs.Sink.{sink_state};
 
 use crate::asked::Asked;
-use crate::ending::{BAD_WORDS, Ending};
+use crate::ending::{BAD_WORDS, MakeError};
 use crate::picture::Pyramid;
 use crate::reading::{PictureError, read_picture};
 use crate::words::asked_in;
@@ -23,7 +23,7 @@ use tap_reader::TapReader;
 use tex_world::{EnterError, Folder, NoMemory, OpenError, ReadError, Sink, Tap};
 
 /// Reads the image of a file through a tap.
-fn read_file<T: Tap>(alloc: Global, tap: &mut T, file: u32) -> Result<Pyramid, Ending>
+fn read_file<T: Tap>(alloc: Global, tap: &mut T, file: u32) -> Result<Pyramid, MakeError>
     requires { IsFile T.W.files file }
     ensures reads { ReadsFile T.W.files file (T.state tap.old) (T.state tap.new) result }
     ensures small { IfOk result (λ picture. samples_of (seen picture) ≤ max_samples) }
@@ -33,8 +33,8 @@ fn read_file<T: Tap>(alloc: Global, tap: &mut T, file: u32) -> Result<Pyramid, E
 {
     let mut handle = match tap.open(alloc, file, 0) {
         Ok(handle) => handle,
-        Err(OpenError::Failed) => return Err(Ending::Failed),
-        Err(OpenError::NoMemory) => return Err(Ending::NoMemory),
+        Err(OpenError::Failed) => return Err(MakeError::Failed),
+        Err(OpenError::NoMemory) => return Err(MakeError::NoMemory),
     };
     let mut reader = TapReader {
         tap,
@@ -42,16 +42,16 @@ fn read_file<T: Tap>(alloc: Global, tap: &mut T, file: u32) -> Result<Pyramid, E
     };
     match read_picture(alloc, &mut reader) {
         Ok(picture) => Ok(picture),
-        Err(PictureError::Fault) => Err(Ending::BadFile),
-        Err(PictureError::TooLarge) => Err(Ending::TooLarge),
-        Err(PictureError::Reader(ReadError::Failed)) => Err(Ending::Failed),
-        Err(PictureError::Reader(ReadError::Gone(_))) => Err(Ending::Gone),
-        Err(PictureError::NoMemory) => Err(Ending::NoMemory),
+        Err(PictureError::Fault) => Err(MakeError::BadFile),
+        Err(PictureError::TooLarge) => Err(MakeError::TooLarge),
+        Err(PictureError::Reader(ReadError::Failed)) => Err(MakeError::Failed),
+        Err(PictureError::Reader(ReadError::Gone(_))) => Err(MakeError::Gone),
+        Err(PictureError::NoMemory) => Err(MakeError::NoMemory),
     }
 }
 
 /// Reads the image of a file through a tap of the folder, and gives the tap back.
-fn picture_of<F: Folder>(alloc: Global, folder: &mut F, file: u32) -> Result<Pyramid, Ending>
+fn picture_of<F: Folder>(alloc: Global, folder: &mut F, file: u32) -> Result<Pyramid, MakeError>
     requires { IsFile F.W.files file }
     ensures reads { ReadsOf F.W.files file (F.state folder.old) (F.state folder.new) result }
     ensures small { IfOk result (λ picture. samples_of (seen picture) ≤ max_samples) }
@@ -61,7 +61,7 @@ fn picture_of<F: Folder>(alloc: Global, folder: &mut F, file: u32) -> Result<Pyr
 {
     let mut tap = match folder.tap(alloc) {
         Ok(tap) => tap,
-        Err(NoMemory) => return Err(Ending::NoMemory),
+        Err(NoMemory) => return Err(MakeError::NoMemory),
     };
     let read = read_file(alloc, &mut tap, file);
     folder.back(tap);
@@ -73,7 +73,7 @@ fn picture_asked<F: Folder>(
     alloc: Global,
     folder: &mut F,
     asked: &Asked<'_>,
-) -> Result<Pyramid, Ending>
+) -> Result<Pyramid, MakeError>
     ensures reads { ReadsPicture F.W.files (shown_asked asked.now)
         (F.state folder.old) (F.state folder.new) result }
     ensures small { IfOk result (λ picture. samples_of (seen picture) ≤ max_samples) }
@@ -85,13 +85,13 @@ fn picture_asked<F: Folder>(
 {
     match folder.enter(alloc, asked.path) {
         Ok(()) => {}
-        Err(EnterError::Failed) => return Err(Ending::Failed),
-        Err(EnterError::TooMany) => return Err(Ending::TooMany),
-        Err(EnterError::NoMemory) => return Err(Ending::NoMemory),
+        Err(EnterError::Failed) => return Err(MakeError::Failed),
+        Err(EnterError::TooMany) => return Err(MakeError::TooMany),
+        Err(EnterError::NoMemory) => return Err(MakeError::NoMemory),
     }
     match folder.find(asked.name) {
         Some(file) => picture_of(alloc, folder, file),
-        None => Err(Ending::NoSuchFile),
+        None => Err(MakeError::NoSuchFile),
     }
 }
 

@@ -1,2 +1,3 @@
 pub mod TableLemmas
 mod PlanLemmas
+pub mod TapLemmas

@@ -12,6 +12,7 @@ pub mod Memory
 pub mod TapPlan
 pub mod Plan
 pub mod Share
+pub mod TapCounters
 pub mod MemHandle
 pub mod MemTap
 pub mod MemFolder

@@ -1,25 +1,16 @@
 -- What does a tap in memory count, and which of its calls fail?
-use Rattle.std.specs.Prelude.{◌≡◌, ℕ, ◌+◌, ◌/◌, IsTrue, length, List, Result, Err, IsOk, IsErr}
+use Rattle.std.specs.Prelude.{◌≡◌, ℕ, ◌+◌, ◌/◌, IsTrue, length, List, Result, IsOk, IsErr}
 use Rattle.tex_world.specs.Counts.{RisesByOne}
-use Rattle.tex_world.specs.Tap.{TapState, Named, IsMove}
+use Rattle.tex_world.specs.Tap.{TapState, Named}
+use Rattle.tex_world.specs.TapCounters.{counted}
 use Rattle.tex_world.specs.TapPlan.{TapPlan, is_failing_call}
 use Rattle.tex_world.specs.Share.{share_plan}
-use Rattle.tex_world.specs.declared.fault.ReadError.{ReadError}
-use Rattle.tex_world.specs.declared.fault.ReadError.TheVariants.{Failed, Gone}
-use Rattle.tex_world.specs.declared.reading.Reading.{Reading}
+use Rattle.tex_world.specs.declared.reading.ReadRequest.{ReadRequest}
 use Rattle.tex_world.specs.declared.mem_tap.MemTap.{MemTap}
 
--- the counts in its fields, and its last answer of a newest generation
+-- the counts, and the last answer of a newest generation
 abbrev pub tap_state : {T : Type 0} → MemTap T → TapState
-tap_state tap = record {
-  faults = tap.faults;
-  calls = tap.calls;
-  opens = tap.opens;
-  asks = tap.asks;
-  moves = tap.moves;
-  lost = tap.lost;
-  newest = tap.newest;
-}
+tap_state tap = counted tap.counters
 
 -- what is left of the tap's share of the plan
 abbrev pub tap_plan : {T : Type 0} → MemTap T → TapPlan
@@ -36,23 +27,8 @@ pub record AfterTapCall {T R E : Type 0} (old new : MemTap T) (result : Result R
   pub answered : IsOk result → (tap_state new).faults ≡ (tap_state old).faults
   pub planned : tap_plan new ≡ tap_plan old
 
--- The call was counted. The counts of opens, asks, moves and lost generations are unchanged, and so
--- is the last answer of `newest`.
-pub record CountsCall (old new : TapState) : Type 0 where
-  pub calls : RisesByOne old.calls new.calls
-  pub opens : new.opens ≡ old.opens
-  pub asks : new.asks ≡ old.asks
-  pub moves : new.moves ≡ old.moves
-  pub lost : new.lost ≡ old.lost
-  pub newest : new.newest ≡ old.newest
-
--- an `open` of a newer generation than was asked for raises the moves by one
-abbrev pub CountsMove : ℕ → TapState → TapState → Named → Type 0
-CountsMove least old new handle =
-    IsMove least handle.generation → RisesByOne old.moves new.moves
-
 -- the read of rows through a handle, `size` bytes together
-abbrev pub rows_reading : Named → ℕ → ℕ → ℕ → ℕ → Reading
+abbrev pub rows_reading : Named → ℕ → ℕ → ℕ → ℕ → ReadRequest
 rows_reading handle at stride row size = record {
   file = handle.file;
   generation = handle.generation;
@@ -63,7 +39,7 @@ rows_reading handle at stride row size = record {
 }
 
 -- the read of a buffer from a place on, as rows of one byte
-abbrev pub reading : Named → ℕ → List ℕ → Reading
+abbrev pub reading : Named → ℕ → List ℕ → ReadRequest
 reading handle at buf = record {
   file = handle.file;
   generation = handle.generation;
@@ -74,14 +50,6 @@ reading handle at buf = record {
 }
 
 -- the read is of this generation of this file
-pub record IsReadOf (handle : Named) (read : Reading) : Type 0 where
+pub record IsReadOf (handle : Named) (read : ReadRequest) : Type 0 where
   pub file : read.file ≡ handle.file
   pub generation : read.generation ≡ handle.generation
-
--- A failed read raises the I/O errors by one; one that meets a newer generation raises the moves.
--- Otherwise the I/O errors are unchanged.
-pub record CountsRead (old new : TapState) (result : Result (Unit {0}) ReadError) : Type 0 where
-  pub failed : result ≡ Err Failed → RisesByOne old.faults new.faults
-  pub others : (result ≡ Err Failed → ⊥) → new.faults ≡ old.faults
-  pub gone : (to : ℕ) → result ≡ Err (Gone to) → RisesByOne old.moves new.moves
-  pub lost : (to : ℕ) → result ≡ Err (Gone to) → RisesByOne old.lost new.lost

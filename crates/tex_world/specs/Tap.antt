@@ -109,6 +109,12 @@ ReadCause files handle old new (reading.Gone to) =
     IsReal files handle.file to × (handle.generation < to) × Rises old.moves new.moves
     × Rises old.lost new.lost
 
+-- a failed read names no generation, or one that exists and is newer than the handle's
+abbrev pub NamesNewer : Files → Named → ReadError → Type 0
+NamesNewer files handle reading.Failed = ⊤
+NamesNewer files handle (reading.Gone to) =
+    IsReal files handle.file to × (handle.generation < to)
+
 -- the error is not that the generation is gone
 abbrev pub IsFault : ReadError → Type 0
 IsFault reading.Failed = ⊤

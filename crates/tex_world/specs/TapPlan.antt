@@ -9,7 +9,7 @@ use Rattle.tex_world.specs.declared.plan.FailCall.{FailCall}
 use Rattle.tex_world.specs.declared.plan.FailByte.{FailByte}
 use Rattle.tex_world.specs.declared.plan.Newest.{Newest}
 use Rattle.tex_world.specs.declared.plan.Rise.{Rise}
-use Rattle.tex_world.specs.declared.reading.Reading.{Reading}
+use Rattle.tex_world.specs.declared.reading.ReadRequest.{ReadRequest}
 
 -- What is left of a tap's share of a plan.
 pub record TapPlan : Type 0 where
@@ -31,26 +31,26 @@ abbrev pub is_failing_call : TapPlan → ℕ → Bool
 is_failing_call plan call = list_any (λ e. e.call == call) plan.fail_calls
 
 -- one of the rows has the byte that lies this many bytes after the first one
-abbrev pub is_in_rows : Reading → ℕ → Bool
+abbrev pub is_in_rows : ReadRequest → ℕ → Bool
 is_in_rows read behind =
     let stride = max read.stride 1 in
     nat_lt (behind / stride) read.count && nat_lt (behind % stride) read.row
 
 -- the read includes the byte at this place of a file
-abbrev pub covers : Reading → ℕ → ℕ → Bool
+abbrev pub covers : ReadRequest → ℕ → ℕ → Bool
 covers read file at = (file == read.file) && (nat_le read.at at && is_in_rows read (at - read.at))
 
 -- the read fails at this entry's byte
-abbrev pub is_failing_byte : Reading → FailByte → Bool
+abbrev pub is_failing_byte : ReadRequest → FailByte → Bool
 is_failing_byte read e = covers read e.file e.at
 
 -- the read, which is the call with this number, fails by its number or at a byte
-abbrev pub is_failing_read : TapPlan → ℕ → Reading → Bool
+abbrev pub is_failing_read : TapPlan → ℕ → ReadRequest → Bool
 is_failing_read plan call read =
     is_failing_call plan call || list_any (is_failing_byte read) plan.fail_bytes
 
 -- This entry's generation exists and is newer than the read's, and its byte is read.
-abbrev pub is_rising : Files → Reading → Rise → Bool
+abbrev pub is_rising : Files → ReadRequest → Rise → Bool
 is_rising files read e =
     is_held files e.file e.to && (nat_lt read.generation e.to && covers read e.file e.at)
 
@@ -64,14 +64,14 @@ met (e ∷ f ∷ es) = Err Failed
 
 -- The answer of a read after `calls` calls. It fails if an entry says so, or if several newer
 -- generations appear; a single one is met.
-abbrev pub planned_read : Files → TapPlan → ℕ → Reading → Result (Unit {0}) ReadError
+abbrev pub planned_read : Files → TapPlan → ℕ → ReadRequest → Result (Unit {0}) ReadError
 planned_read files plan calls read =
     if is_failing_read plan (calls + 1) read then Err Failed
     else met (filter (is_rising files read) plan.rises)
 
 -- What is left after a read: the entries that name it are used up, and its generations have
 -- appeared.
-abbrev pub after_read : Files → Reading → TapPlan → TapPlan
+abbrev pub after_read : Files → ReadRequest → TapPlan → TapPlan
 after_read files read plan = record {
   fail_calls = plan.fail_calls;
   fail_bytes = filter (λ e. not (is_failing_byte read e)) plan.fail_bytes;

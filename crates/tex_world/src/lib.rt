@@ -19,6 +19,7 @@ mod share;
 mod sink;
 mod table;
 mod tap;
+mod tap_counters;
 mod world;
 
 pub use fault::{EnterError, Failed, NoMemory, OpenError, ReadError};
@@ -33,4 +34,5 @@ pub use plan::{FailByte, FailCall, Newest, Plan, Rise};
 pub use sink::Sink;
 pub use table::{FIRST_GENERATION, FileTable, LAST_GENERATION, TableWorld, number_of};
 pub use tap::{Tap, TapHandle};
+pub use tap_counters::TapCounters;
 pub use world::World;

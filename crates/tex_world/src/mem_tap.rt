@@ -3,24 +3,25 @@ ghost use Rattle.std.specs.Prelude.{◌≡◌, ◌↔◌, ℕ, ◌+◌, ◌<◌,
 ghost use Rattle.std.specs.Prelude.{IfOk, IfErr, IsErr, OnOk};
 ghost use Rattle.std.specs.List.{EachIndex};
 ghost use Rattle.std.specs.Option.{ForSome};
-ghost use Rattle.tex_world.specs.Counts.{Rises, RisesByOne};
+ghost use Rattle.tex_world.specs.Counts.{Rises};
 ghost use Rattle.tex_world.specs.World.{IsFile, IsReal};
 ghost use Rattle.tex_world.specs.Tap.{IsNew, IsLeast, Opens, OpenCause, AfterOpen};
 ghost use Rattle.tex_world.specs.Tap.{AfterNewest, ReadCause, AfterRead, AreRows, HoldsRows};
 ghost use Rattle.tex_world.specs.Tap.{place_in_rows};
 ghost use Rattle.tex_world.specs.MemHandle.{handle_named};
 ghost use Rattle.tex_world.specs.MemTap.{tap_state, tap_plan, IsPlannedCall};
-ghost use Rattle.tex_world.specs.MemTap.{AfterTapCall, CountsCall, CountsMove, CountsRead, reading};
-ghost use Rattle.tex_world.specs.MemTap.{rows_reading, IsReadOf};
+ghost use Rattle.tex_world.specs.MemTap.{AfterTapCall, reading, rows_reading, IsReadOf};
+ghost use Rattle.tex_world.specs.TapCounters.{CountsMove, CountsRead};
 ghost use Rattle.tex_world.specs.Share.{share_plan};
 ghost use Rattle.tex_world.specs.TapPlan.{newest_of, planned_read, after_read};
 
 use crate::fault::{Failed, OpenError, ReadError};
 use crate::mem_handle::MemHandle;
-use crate::reading::Reading;
+use crate::reading::ReadRequest;
 use crate::share::Share;
 use crate::table::{FileTable, TableWorld};
 use crate::tap::{Tap, TapHandle};
+use crate::tap_counters::TapCounters;
 use crate::world::World;
 use std::alloc::Global;
 use std::marker::PhantomData;
@@ -30,13 +31,7 @@ use std::marker::PhantomData;
 #[derive(Drop)]
 pub struct MemTap<T: FileTable> {
     share: Share,
-    faults: u64,
-    calls: u64,
-    opens: u64,
-    asks: u64,
-    moves: u64,
-    lost: u64,
-    newest: (u32, u32),
+    counters: TapCounters,
     table: PhantomData<T>,
 }
 
@@ -48,34 +43,49 @@ impl<T: FileTable> MemTap<T> {
     {
         MemTap {
             share,
-            faults: 0,
-            calls: 0,
-            opens: 0,
-            asks: 0,
-            moves: 0,
-            lost: 0,
-            newest: (0, 0),
+            counters: TapCounters::new(),
             table: PhantomData,
         }
     }
 
-    // Counts a call, and fails if that is planned.
-    fn call(&mut self) -> Result<(), Failed>
-        ensures planned { IsErr result ↔ IsPlannedCall self.old }
-        ensures after { AfterTapCall self.old self.new result }
-        ensures counts { CountsCall (tap_state self.old) (tap_state self.new) }
+    // Opens the greater of `least` and the newest generation, or fails as planned.
+    fn open_as_planned(&self, file: u32, least: u32) -> Result<MemHandle<T>, OpenError>
+        requires file { IsFile ⟦<TableWorld<T> as World>⟧.files file }
+        requires least { IsLeast ⟦<TableWorld<T> as World>⟧.files file least }
+        ensures ok { IfOk result (λ h.
+            Opens ⟦<TableWorld<T> as World>⟧.files file least (handle_named h)) }
+        ensures planned { IsErr result ↔ IsPlannedCall self.now }
+        ensures err { IfErr result (λ e. e ≡ OpenError.Failed) }
+        ensures newest { IfOk result (λ h. (handle_named h).generation
+            ≡ max least (newest_of ⟦<TableWorld<T> as World>⟧.files (tap_plan self.now) file)) }
     {
-        let fails = self.share.fails_after(self.calls);
-        self.calls = self.calls.saturating_add(1);
-        if fails {
-            self.faults = self.faults.saturating_add(1);
+        if self.share.fails_after(self.counters.calls()) {
+            return Err(OpenError::Failed);
+        }
+        let generation = least.max(self.share.newest_of::<T>(file));
+        match T::len(file, generation) {
+            Some(len) => Ok(MemHandle::new(file, generation, len)),
+            None => unreachable!(),
+        }
+    }
+
+    // The greater of `least` and the newest generation, unless the call is planned to fail.
+    fn newest_as_planned(&self, file: u32, least: u32) -> Result<u32, Failed>
+        requires file { IsFile ⟦<TableWorld<T> as World>⟧.files file }
+        requires least { IsLeast ⟦<TableWorld<T> as World>⟧.files file least }
+        ensures real { IfOk result (IsReal ⟦<TableWorld<T> as World>⟧.files file) }
+        ensures planned { IsErr result ↔ IsPlannedCall self.now }
+        ensures newest { IfOk result (λ g. g
+            ≡ max least (newest_of ⟦<TableWorld<T> as World>⟧.files (tap_plan self.now) file)) }
+    {
+        if self.share.fails_after(self.counters.calls()) {
             return Err(Failed);
         }
-        Ok(())
+        Ok(least.max(self.share.newest_of::<T>(file)))
     }
 
     // Answers a read as planned, and counts it.
-    fn answer(&mut self, h: &MemHandle<T>, read: Reading) -> Result<(), ReadError>
+    fn answer(&mut self, h: &MemHandle<T>, read: ReadRequest) -> Result<(), ReadError>
         requires { IsReadOf (handle_named h.now) read }
         ensures cause { IfErr result
             (ReadCause ⟦<TableWorld<T> as World>⟧.files (handle_named h.now)
@@ -88,16 +98,8 @@ impl<T: FileTable> MemTap<T> {
             ≡ after_read ⟦<TableWorld<T> as World>⟧.files read (tap_plan self.old) }
         ensures exact { CountsRead (tap_state self.old) (tap_state self.new) result }
     {
-        let met = self.share.meet::<T>(self.calls, read);
-        self.calls = self.calls.saturating_add(1);
-        match met {
-            Ok(()) => {}
-            Err(ReadError::Failed) => self.faults = self.faults.saturating_add(1),
-            Err(ReadError::Gone(_to)) => {
-                self.moves = self.moves.saturating_add(1);
-                self.lost = self.lost.saturating_add(1);
-            }
-        }
+        let met = self.share.meet::<T>(self.counters.calls(), read);
+        self.counters.count_read(met);
         met
     }
 
@@ -105,35 +107,35 @@ impl<T: FileTable> MemTap<T> {
     pub fn faults(&self) -> u64
         ensures { result ≡ (tap_state self.now).faults }
     {
-        self.faults
+        self.counters.faults()
     }
 
     /// How often the tap met a newer generation.
     pub fn moves(&self) -> u64
         ensures { result ≡ (tap_state self.now).moves }
     {
-        self.moves
+        self.counters.moves()
     }
 
     /// The number of calls.
     pub fn calls(&self) -> u64
         ensures { result ≡ (tap_state self.now).calls }
     {
-        self.calls
+        self.counters.calls()
     }
 
     /// The number of calls that opened a file.
     pub fn opens(&self) -> u64
         ensures { result ≡ (tap_state self.now).opens }
     {
-        self.opens
+        self.counters.opens()
     }
 
     /// The number of successful calls that asked for a newest generation.
     pub fn asks(&self) -> u64
         ensures { result ≡ (tap_state self.now).asks }
     {
-        self.asks
+        self.counters.asks()
     }
 }
 
@@ -164,18 +166,9 @@ impl<T: FileTable> Tap for MemTap<T> {
         ensures moves { IfOk result (λ h.
             CountsMove least (tap_state self.old) (tap_state self.new) (handle_named h)) }
     {
-        self.opens = self.opens.saturating_add(1);
-        if let Err(Failed) = self.call() {
-            return Err(OpenError::Failed);
-        }
-        let generation = least.max(self.share.newest_of::<T>(file));
-        if 0 < least && least < generation {
-            self.moves = self.moves.saturating_add(1);
-        }
-        match T::len(file, generation) {
-            Some(len) => Ok(MemHandle::new(file, generation, len)),
-            None => unreachable!(),
-        }
+        let opened = self.open_as_planned(file, least);
+        self.counters.count_open(least, &opened);
+        opened
     }
 
     fn newest(&mut self, file: u32, least: u32) -> Result<u32, Failed>
@@ -194,11 +187,9 @@ impl<T: FileTable> Tap for MemTap<T> {
         ensures newest { IfOk result (λ g. g
             ≡ max least (newest_of ⟦<TableWorld<T> as World>⟧.files (tap_plan self.old) file)) }
     {
-        self.call()?;
-        self.asks = self.asks.saturating_add(1);
-        let generation = least.max(self.share.newest_of::<T>(file));
-        self.newest = (file, generation);
-        Ok(generation)
+        let newest = self.newest_as_planned(file, least);
+        self.counters.count_newest(file, newest);
+        newest
     }
 
     fn read_at(&mut self, h: &mut MemHandle<T>, at: u64, buf: &mut [u8]) -> Result<(), ReadError>
@@ -223,7 +214,7 @@ impl<T: FileTable> Tap for MemTap<T> {
             (reading (handle_named h.old) at buf.old) (tap_plan self.old) }
         ensures exact { CountsRead (tap_state self.old) (tap_state self.new) result }
     {
-        let read = Reading {
+        let read = ReadRequest {
             file: h.file(),
             generation: h.generation(),
             at,
@@ -266,7 +257,7 @@ impl<T: FileTable> Tap for MemTap<T> {
             (tap_plan self.old) }
         ensures exact { CountsRead (tap_state self.old) (tap_state self.new) result }
     {
-        let read = Reading {
+        let read = ReadRequest {
             file: h.file(),
             generation: h.generation(),
             at,

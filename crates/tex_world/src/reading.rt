@@ -4,7 +4,7 @@ ghost use Rattle.std.specs.Prelude.{◌≡◌};
 /// A read of `count` rows of `row` bytes from one generation of a file. The first row is at `at`,
 /// and each begins `stride` bytes after the one before.
 #[derive(Clone, Copy)]
-pub struct Reading {
+pub struct ReadRequest {
     pub file: u32,
     pub generation: u32,
     pub at: u64,
@@ -13,7 +13,7 @@ pub struct Reading {
     pub count: u64,
 }
 
-impl Reading {
+impl ReadRequest {
     ghost use Rattle.tex_world.specs.TapPlan.{is_in_rows, covers};
 
     /// Whether the byte that lies `behind` bytes after the first one is read.

@@ -8,7 +8,7 @@ ghost use Rattle.tex_world.specs.TapPlan.{is_failing_byte, met};
 
 use crate::fault::ReadError;
 use crate::plan::{FailByte, Newest, Rise};
-use crate::reading::Reading;
+use crate::reading::ReadRequest;
 use crate::table::{FIRST_GENERATION, FileTable, is_held};
 
 /// The generation of the first entry that names the file and an existing generation; otherwise
@@ -47,7 +47,7 @@ pub fn highest<T: FileTable>(risen: &[Rise], file: u32, first: u32) -> u32
 }
 
 /// Whether this newer generation appears at a read.
-pub fn is_rising<T: FileTable>(read: Reading, e: &Rise) -> bool
+pub fn is_rising<T: FileTable>(read: ReadRequest, e: &Rise) -> bool
     ensures { result
         ≡ is_rising (table_files T.count_of T.name_of T.len_of T.byte_of) read e.now }
 {
@@ -55,7 +55,7 @@ pub fn is_rising<T: FileTable>(read: Reading, e: &Rise) -> bool
 }
 
 /// Adds the generations that appear at a read to those that have appeared.
-pub fn add_rising<T: FileTable>(risen: &mut Vec<Rise>, rises: &[Rise], read: Reading)
+pub fn add_rising<T: FileTable>(risen: &mut Vec<Rise>, rises: &[Rise], read: ReadRequest)
     requires { length rises.now + length risen.old.items ≤ vec_capacity risen.old }
     ensures value { risen.new.items ≡ risen.old.items ++
         filter (is_rising (table_files T.count_of T.name_of T.len_of T.byte_of) read) rises.now }
@@ -69,7 +69,7 @@ pub fn add_rising<T: FileTable>(risen: &mut Vec<Rise>, rises: &[Rise], read: Rea
 }
 
 /// Removes the entries whose generation appears at a read.
-pub fn drop_rising<T: FileTable>(rises: &mut Vec<Rise>, read: Reading)
+pub fn drop_rising<T: FileTable>(rises: &mut Vec<Rise>, read: ReadRequest)
     ensures { rises.new.items ≡ filter (λ e. not
         (is_rising (table_files T.count_of T.name_of T.len_of T.byte_of) read e)) rises.old.items }
 {
@@ -77,7 +77,7 @@ pub fn drop_rising<T: FileTable>(rises: &mut Vec<Rise>, read: Reading)
 }
 
 /// Removes the bytes at which a read fails.
-pub fn drop_failing(bytes: &mut Vec<FailByte>, read: Reading)
+pub fn drop_failing(bytes: &mut Vec<FailByte>, read: ReadRequest)
     ensures { bytes.new.items ≡ filter (λ e. not (is_failing_byte read e)) bytes.old.items }
 {
     bytes.retain(|e| !read.covers(e.file, e.at));

@@ -3,7 +3,7 @@ ghost use Rattle.std.specs.Prelude.{◌≡◌, ◌+◌, ◌≤◌, ◌++◌, ◌
 
 use crate::fault::ReadError;
 use crate::plan::{FailByte, FailCall, Newest, Rise};
-use crate::reading::Reading;
+use crate::reading::ReadRequest;
 use crate::rises::{add_rising, drop_failing, drop_rising, highest, met, newest_at_first};
 use crate::table::FileTable;
 
@@ -37,7 +37,7 @@ impl Share {
     }
 
     // Whether an entry says that the read fails at a byte.
-    fn fails_at(&self, read: Reading) -> bool
+    fn fails_at(&self, read: ReadRequest) -> bool
         ensures { result ≡ list_any (is_failing_byte read) self.now.fail_bytes.items }
     {
         self.fail_bytes.iter().any(|e| read.covers(e.file, e.at))
@@ -58,7 +58,7 @@ impl Share {
 
     /// The planned answer of a read after `calls` calls. The entries that name the read are then
     /// used up.
-    pub fn meet<T: FileTable>(&mut self, calls: u64, read: Reading) -> Result<(), ReadError>
+    pub fn meet<T: FileTable>(&mut self, calls: u64, read: ReadRequest) -> Result<(), ReadError>
         ensures value { result
             ≡ planned_read (table_files T.count_of T.name_of T.len_of T.byte_of)
             (share_plan self.old) calls read }
@@ -76,7 +76,7 @@ impl Share {
     }
 
     // Removes the entries that name the read.
-    fn spend<T: FileTable>(&mut self, read: Reading)
+    fn spend<T: FileTable>(&mut self, read: ReadRequest)
         ensures { share_plan self.new
             ≡ after_read (table_files T.count_of T.name_of T.len_of T.byte_of) read
             (share_plan self.old) }

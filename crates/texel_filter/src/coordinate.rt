@@ -26,13 +26,13 @@ const UNIT_BITS: u32 = 16;
 
 // A number in 1/65536, split into whole units and the rest.
 #[derive(Drop)]
-struct Parts {
+struct WholeAndRest {
     whole: i64,
     rest: u32,
 }
 
 #[inline(always)]
-fn parts_of(z: i64) -> Parts
+fn parts_of(z: i64) -> WholeAndRest
     requires low { neg_ℤ (pos (2 ^ 62)) ≤ℤ z }
     requires high { z ≤ℤ pos (2 ^ 62) }
     ensures whole { result.whole ≡ rounded_down z unit }
@@ -40,7 +40,7 @@ fn parts_of(z: i64) -> Parts
     ensures rest { result.rest ≡ left_over z unit }
 {
     let whole = z >> UNIT_BITS;
-    Parts {
+    WholeAndRest {
         whole,
         rest: (z - whole * SIGNED_UNIT) as u32,
     }

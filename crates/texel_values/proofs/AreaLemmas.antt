@@ -23,7 +23,7 @@ use Rattle.texel_values.specs.Met.{cells_met}
 use Rattle.texel_values.specs.Area.{area_cell, area_cells, IsAreaOf, IsPainted, IsZeroBeside}
 use Rattle.texel_values.specs.Overlap.{index_in, IsOverlap}
 use Rattle.texel_values.specs.Region.{value_at, value_or_zero, AreRegionValues}
-use Rattle.texel_values.specs.Window.{InWindow, IsIn, column_of, row_of, HasValuesOn}
+use Rattle.texel_values.specs.RegionShape.{InWindow, IsIn, column_of, row_of, HasValuesOn}
 use Rattle.texel_values.proofs.PlaceLemmas.{less_or_not}
 
 -- ---- a side

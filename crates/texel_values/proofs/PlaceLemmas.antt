@@ -5,8 +5,8 @@ use Rattle.std.proofs.Math.Nat.{mul-le-mul_left}
 use Rattle.std.proofs.lemmas.Bool.{ltb-true, ltb-false}
 use Rattle.std.proofs.lemmas.Nat.{mul-add-lt}
 use Rattle.tiff_format.specs.declared.rect.Rect.{Rect}
-use Rattle.texel_values.specs.declared.window.Window.{Window}
-use Rattle.texel_values.specs.Window.{IsIn, row_of}
+use Rattle.texel_values.specs.declared.window.RegionShape.{RegionShape}
+use Rattle.texel_values.specs.RegionShape.{IsIn, row_of}
 
 -- the place of channel c of texel (i, j)
 abbrev pub place_at : ℕ → ℕ → ℕ → ℕ → ℕ → ℕ
@@ -42,7 +42,7 @@ module _ (w n : ℕ) where
       omega (arith, rows)
 
 -- What is known of a row of a tile that is written: the columns from `left` to `right` of row y.
-pub record IsRow (window : Window) (rect : Rect) (left right top bottom y : ℕ) : Type 0 where
+pub record IsRow (window : RegionShape) (rect : Rect) (left right top bottom y : ℕ) : Type 0 where
   pub left_is : left ≡ max rect.x window.columns.first
   pub right_is : right ≡ min (rect.x + rect.w) (window.columns.first + window.columns.inside)
   pub top_is : top ≡ max rect.y window.rows.first
@@ -52,7 +52,7 @@ pub record IsRow (window : Window) (rect : Rect) (left right top bottom y : ℕ)
   pub high : y < bottom
   pub across : window.columns.before + window.columns.inside ≤ window.width
 
-module _ (window : Window) (rect : Rect) (left right top bottom y : ℕ)
+module _ (window : RegionShape) (rect : Rect) (left right top bottom y : ℕ)
     (is : IsRow window rect left right top bottom y) where
   abbrev pub first_i : ℕ
   first_i = window.columns.before + (left - window.columns.first)

@@ -15,8 +15,8 @@ use Rattle.tile_store.specs.Told.{IsOfBytes, IsTold, IsSampleOf, AreToldSamples}
 use Rattle.tile_layout.specs.Cell.{HoldsTexel}
 use Rattle.tile_layout.specs.Value.{channel_value_of}
 use Rattle.texel_values.specs.declared.texel_at.TexelAt.{TexelAt}
-use Rattle.texel_values.specs.declared.window.Window.{Window}
-use Rattle.texel_values.specs.Window.{column_of, row_of, HasValuesOn, Paints, PaintsTold}
+use Rattle.texel_values.specs.declared.window.RegionShape.{RegionShape}
+use Rattle.texel_values.specs.RegionShape.{column_of, row_of, HasValuesOn, Paints, PaintsTold}
 use Rattle.texel_values.specs.Values.{kept_value, sample_value, AreValuesIn}
 use Rattle.texel_values.specs.Values.{AreValuesAt, AreToldValues}
 
@@ -167,7 +167,7 @@ value_told tile bytes x y c of is holds low =
     (value_of (bit_depth_of bytes) (texel_at bytes (level_of tile.key) x y c)) refl
     (subst (λ (n : ℕ). c < n) of.channels low))
 
-pub told_paint : (files : Files) (tile : CachedTile) (depth : ℕ) (window : Window) (height : ℕ)
+pub told_paint : (files : Files) (tile : CachedTile) (depth : ℕ) (window : RegionShape) (height : ℕ)
     (old new : List ℕ) → IsTold files tile → IsTile tile → tile.channels ≡ window.channels
     → Paints tile depth window height old new → PaintsTold files tile depth window height new
 told_paint files tile depth window height old new told is channels paints tells =

@@ -7,7 +7,7 @@ use Rattle.texel_values.specs.declared.area.Area.{Area}
 use Rattle.texel_values.specs.declared.region.Region.{Region}
 use Rattle.texel_values.specs.Overlap.{IsOverlap}
 use Rattle.texel_values.specs.Region.{value_at}
-use Rattle.texel_values.specs.Window.{InWindow, column_of, row_of}
+use Rattle.texel_values.specs.RegionShape.{InWindow, column_of, row_of}
 use Rattle.texel_values.specs.Met.{cell_met, count_met}
 
 -- It is the area of this region on a level that is divided in this way.

@@ -2,6 +2,6 @@ pub mod Values
 pub mod Square
 pub mod Overlap
 pub mod Region
-pub mod Window
+pub mod RegionShape
 pub mod Met
 pub mod Area

@@ -3,7 +3,7 @@ use Rattle.std.specs.Prelude.{◌≡◌, ℕ, ◌+◌, ◌-◌, ◌*◌, ◌/◌
 use Rattle.tile_layout.specs.declared.grid.Grid.{Grid}
 use Rattle.tile_layout.specs.Cell.{CutLevel, cells_across}
 use Rattle.texel_values.specs.declared.overlap.Overlap.{Overlap}
-use Rattle.texel_values.specs.declared.window.Window.{Window}
+use Rattle.texel_values.specs.declared.window.RegionShape.{RegionShape}
 
 -- the number of cells that a range of places on a side meets
 abbrev pub cells_met : ℕ → ℕ → ℕ → ℕ
@@ -25,7 +25,7 @@ count_met level columns rows =
     * cells_met level.cell_width columns.first columns.inside
 
 -- this many cells are met across and down, and the window lies on the level
-pub record IsMet (grid : Grid) (window : Window) (across down : ℕ) : Type 0 where
+pub record IsMet (grid : Grid) (window : RegionShape) (across down : ℕ) : Type 0 where
   pub across_is : across ≡ cells_met grid.across.cell window.columns.first window.columns.inside
   pub down_is : down ≡ cells_met grid.down.cell window.rows.first window.rows.inside
   pub columns : window.columns.first + window.columns.inside ≤ grid.across.size

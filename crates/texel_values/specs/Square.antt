@@ -10,7 +10,7 @@ use Rattle.tile_layout.specs.Key.{level_of}
 use Rattle.tile_layout.specs.Cell.{HoldsTexel, bit_depth_of}
 use Rattle.tile_layout.specs.Value.{channel_value_of}
 use Rattle.tile_store.specs.declared.two_rows.TwoRows.{TwoRows}
-use Rattle.tile_store.specs.Row.{top_of, bottom_of}
+use Rattle.tile_store.specs.SampleRow.{top_of, bottom_of}
 use Rattle.tile_store.specs.Tile.{CachedTile}
 use Rattle.tile_store.specs.Told.{ToldBy}
 use Rattle.texel_values.specs.Values.{sample_or_zero}

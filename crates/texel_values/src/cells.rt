@@ -10,7 +10,7 @@ ghost use Rattle.texel_values.specs.Area.{IsAreaOf, area_cell, area_cells};
 use crate::area::Area;
 use crate::overlap::Overlap;
 use crate::region::Region;
-use crate::window::Window;
+use crate::window::RegionShape;
 use tile_layout::{CutSide, Grid};
 
 /// How many cells along a side the places on it meet.
@@ -29,7 +29,7 @@ impl Area {
     pub fn new(grid: Grid, region: &Region, channels: u32) -> Area
         ensures { IsAreaOf (shown_grid grid) region.now channels result }
     {
-        let window = Window {
+        let window = RegionShape {
             columns: Overlap::new(region.x, region.w, grid.across.size),
             rows: Overlap::new(region.y, region.h, grid.down.size),
             width: region.w,

@@ -19,4 +19,4 @@ pub use region::Region;
 pub use square::write_square;
 pub use texel_at::TexelAt;
 pub use values::{write_channels, write_values};
-pub use window::Window;
+pub use window::RegionShape;

@@ -1,18 +1,24 @@
 //! Copies the texels of a tile to the values of a region.
 ghost use Rattle.std.specs.Prelude.{◌≡◌, ◌⊎◌, ℕ, ◌+◌, ◌*◌, ◌<◌, ◌≤◌, ◌^◌, length, slice_index};
-ghost use Rattle.tile_store.specs.Row.{samples_of};
+ghost use Rattle.tile_store.specs.SampleRow.{samples_of};
 ghost use Rattle.tile_layout.specs.Pieces.{LiesOn};
 ghost use Rattle.texel_values.specs.Values.{kept_value};
-ghost use Rattle.texel_values.specs.Window.{HasValues, Paints, PaintsTold};
+ghost use Rattle.texel_values.specs.RegionShape.{HasValues, Paints, PaintsTold};
 
 use crate::values::{NARROW_DEPTH, value_of};
-use crate::window::Window;
+use crate::window::RegionShape;
 use tex_world::World;
-use tile_store::{Row, Tile};
+use tile_store::{SampleRow, Tile};
 
 /// Writes those texels of a tile that lie in the region to their places among its values: row by
 /// row, all channels of a texel together.
-pub fn paint<W: World>(tile: &Tile<W>, depth: u32, window: &Window, height: u32, values: &mut [u16])
+pub fn paint<W: World>(
+    tile: &Tile<W>,
+    depth: u32,
+    window: &RegionShape,
+    height: u32,
+    values: &mut [u16],
+)
     requires values { HasValues window.now height values.old }
     requires channels { tile.now.channels ≡ window.now.channels }
     requires right { tile.now.rect.x + tile.now.rect.w < 2 ^ 32 }
@@ -32,7 +38,7 @@ pub fn paint<W: World>(tile: &Tile<W>, depth: u32, window: &Window, height: u32,
 fn paint_tile<W: World>(
     tile: &Tile<W>,
     depth: u32,
-    window: &Window,
+    window: &RegionShape,
     height: u32,
     values: &mut [u16],
 )
@@ -66,7 +72,7 @@ fn paint_tile<W: World>(
 }
 
 /// Writes the values of a row of samples, from index `from` on.
-fn paint_row(samples: &Row<'_>, depth: u32, from: usize, values: &mut [u16])
+fn paint_row(samples: &SampleRow<'_>, depth: u32, from: usize, values: &mut [u16])
     requires { from + length (samples_of samples.now) ≤ length values.old }
     ensures long { length values.new ≡ length values.old }
     ensures written { (k : ℕ) → k < length (samples_of samples.now)
@@ -87,7 +93,7 @@ fn paint_row(samples: &Row<'_>, depth: u32, from: usize, values: &mut [u16])
 
 /// Writes one value for each sample.
 #[inline(always)]
-fn write_samples(samples: &Row<'_>, depth: u32, out: &mut [u16])
+fn write_samples(samples: &SampleRow<'_>, depth: u32, out: &mut [u16])
     requires { length (samples_of samples.now) ≡ length out.old }
     ensures long { length out.new ≡ length out.old }
     ensures values { (k : ℕ) → k < length out.new

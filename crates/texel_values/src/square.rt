@@ -1,14 +1,14 @@
 //! Reads the four texels of a square from one tile.
 ghost use Rattle.std.specs.Prelude.{◌≡◌, ◌+◌, ◌≤◌, length};
 ghost use Rattle.texel_filter.specs.Image.{IsChannelCount};
-ghost use Rattle.tile_store.specs.Row.{samples_of, top_of, bottom_of};
+ghost use Rattle.tile_store.specs.SampleRow.{samples_of, top_of, bottom_of};
 ghost use Rattle.texel_values.specs.Square.{HoldsSquare, AreToldCorners};
 ghost use Rattle.texel_values.specs.Square.{HasEnds, AreCornersOf, texel_at};
 
 use crate::values::NARROW_DEPTH;
 use tex_world::World;
 use texel_filter::{Corners, Square};
-use tile_store::{Row, Tile, TwoRows};
+use tile_store::{SampleRow, Tile, TwoRows};
 
 /// Writes the first channels of the square's four texels, which all lie in this tile, with 0 for
 /// channels that it lacks. Records whether the samples have 8 bits.
@@ -84,7 +84,7 @@ fn write_corners(
 
 /// Channel c of the texel that begins at a place; 0 if the texel lacks it.
 #[inline(always)]
-fn channel_sample(samples: &Row<'_>, from: usize, wide: usize, c: usize) -> u16
+fn channel_sample(samples: &SampleRow<'_>, from: usize, wide: usize, c: usize) -> u16
     requires { from + wide ≤ length (samples_of samples.now) }
     ensures { result ≡ texel_at (samples_of samples.now) from wide c }
 {

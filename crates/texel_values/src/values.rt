@@ -1,13 +1,13 @@
 //! Converts the samples of a texel to 16-bit values.
 ghost use Rattle.std.specs.Prelude.{◌≡◌, ℕ, ◌<◌, length, slice_index};
 ghost use Rattle.tile_layout.specs.Cell.{HoldsTexel};
-ghost use Rattle.tile_store.specs.Row.{samples_of};
+ghost use Rattle.tile_store.specs.SampleRow.{samples_of};
 ghost use Rattle.texel_values.specs.Values.{kept_value, sample_value, AreValuesIn, AreToldValues};
 
 use crate::texel_at::TexelAt;
 use tex_world::World;
 use texel_filter::{NARROW_NUMBERS, NARROW_SCALE};
-use tile_store::{Row, Tile};
+use tile_store::{SampleRow, Tile};
 
 /// The bits of a sample that fits a byte.
 pub(crate) const NARROW_DEPTH: u32 = 8;
@@ -26,7 +26,7 @@ pub(crate) fn value_of(depth: u32, sample: u16) -> u16
 
 /// The value of channel c; 0 if the texel lacks it.
 #[inline(always)]
-pub(crate) fn channel_value(samples: &Row<'_>, depth: u32, c: usize) -> u16
+pub(crate) fn channel_value(samples: &SampleRow<'_>, depth: u32, c: usize) -> u16
     ensures { result ≡ sample_value (samples_of samples.now) depth c }
 {
     if c < samples.count() {
@@ -39,7 +39,7 @@ pub(crate) fn channel_value(samples: &Row<'_>, depth: u32, c: usize) -> u16
 /// Writes the values of a texel's first channels, with 0 for those that it lacks. Inlined where the
 /// size of a sample is known.
 #[inline(always)]
-fn write_kept(samples: &Row<'_>, depth: u32, out: &mut [u16])
+fn write_kept(samples: &SampleRow<'_>, depth: u32, out: &mut [u16])
     ensures values { (c : ℕ) → c < length out.new
         → slice_index out.new c ≡ sample_value (samples_of samples.now) depth c }
     ensures long { length out.new ≡ length out.old }
@@ -52,7 +52,7 @@ fn write_kept(samples: &Row<'_>, depth: u32, out: &mut [u16])
 /// Writes the values of a texel's first channels. It has one body for each size of sample, so that
 /// the loops need no test.
 #[inline(always)]
-fn write_texel(samples: &Row<'_>, depth: u32, out: &mut [u16])
+fn write_texel(samples: &SampleRow<'_>, depth: u32, out: &mut [u16])
     ensures values { (c : ℕ) → c < length out.new
         → slice_index out.new c ≡ sample_value (samples_of samples.now) depth c }
     ensures long { length out.new ≡ length out.old }
@@ -72,7 +72,7 @@ pub fn write_channels(samples: &[u16], depth: u32, out: &mut [u16])
         → slice_index out.new c ≡ sample_value samples.now depth c }
     ensures long { length out.new ≡ length out.old }
 {
-    write_texel(&Row::Shorts(samples), depth, out);
+    write_texel(&SampleRow::Shorts(samples), depth, out);
 }
 
 /// Writes the values of the first channels of a texel in a tile, with 0 for channels that it lacks.

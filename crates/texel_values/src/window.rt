@@ -3,7 +3,7 @@ use crate::overlap::Overlap;
 
 /// How a region lies on its level, and how its values are arranged.
 #[derive(Clone, Copy, Debug, PartialEq, Eq)]
-pub struct Window {
+pub struct RegionShape {
     /// Its columns, relative to the level.
     pub columns: Overlap,
     /// Its rows, relative to the level.

@@ -9,7 +9,7 @@ use Rattle.texel_filter.specs.declared.request.FineRequest.{FineRequest}
 use Rattle.tex_aniso.specs.declared.ellipse_request.EllipseRequest.{EllipseRequest}
 use Rattle.tex_aniso.specs.Shape.{IsEllipseRequest}
 use Rattle.tex_aniso.specs.Ellipse.{ellipse_value, ellipse_visits}
-use Rattle.texture_sys.specs.declared.batch.Place.{Place}
+use Rattle.texture_sys.specs.declared.batch.LookupPoint.{LookupPoint}
 use Rattle.texture_sys.specs.declared.batch.PointOptions.{PointOptions}
 use Rattle.texture_sys.specs.declared.batch.FootprintOptions.{FootprintOptions}
 use Rattle.texture_sys.specs.declared.batch.BatchOptions.{BatchOptions}
@@ -19,7 +19,7 @@ use Rattle.texture_sys.specs.declared.batch.Batch.{Batch}
 -- ---- one lookup of a batch
 
 -- the lookup at a place
-abbrev pub point_at : PointOptions → Place → FineRequest
+abbrev pub point_at : PointOptions → LookupPoint → FineRequest
 point_at o place = record {
   s = place.s;
   t = place.t;
@@ -31,7 +31,7 @@ point_at o place = record {
 }
 
 -- the lookup over the footprint at a place
-abbrev pub footprint_at : FootprintOptions → Place → EllipseRequest
+abbrev pub footprint_at : FootprintOptions → LookupPoint → EllipseRequest
 footprint_at o place = record {
   s = place.s;
   t = place.t;
@@ -51,28 +51,28 @@ batch_channels (Points o) = o.nch
 batch_channels (Footprints o) = o.nch
 
 -- the numbers of the lookup at a place are in range
-abbrev pub IsPlaceInRange : BatchOptions → Place → Type 0
+abbrev pub IsPlaceInRange : BatchOptions → LookupPoint → Type 0
 IsPlaceInRange (Points o) place = IsFineRequest (point_at o place)
 IsPlaceInRange (Footprints o) place = IsEllipseRequest (footprint_at o place)
 
 -- channel c of the value of the lookup at a place
-abbrev pub place_value : Image → BatchOptions → Place → ℕ → ℕ
+abbrev pub place_value : Image → BatchOptions → LookupPoint → ℕ → ℕ
 place_value image (Points o) place c = lookup_value image (point_at o place) c
 place_value image (Footprints o) place c = ellipse_value image (footprint_at o place) c
 
 -- the texels that the lookup at a place visits, in order
-abbrev pub place_visits : Sizes → BatchOptions → Place → List Texel
+abbrev pub place_visits : Sizes → BatchOptions → LookupPoint → List Texel
 place_visits sizes (Points o) place = lookup_visits sizes (point_at o place)
 place_visits sizes (Footprints o) place = ellipse_visits sizes (footprint_at o place)
 
 -- ---- all lookups of a batch
 
 -- used only where a batch has no place: it is never read
-abbrev pub no_place : Place
+abbrev pub no_place : LookupPoint
 no_place = record { s = pos 0; t = pos 0; dsdx = pos 0; dtdx = pos 0; dsdy = pos 0; dtdy = pos 0 }
 
 -- place i of a batch
-abbrev pub nth_place : Batch → ℕ → Place
+abbrev pub nth_place : Batch → ℕ → LookupPoint
 nth_place b i = slice_index_or b.places.now i no_place
 
 -- how many values the batch has

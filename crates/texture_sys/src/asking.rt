@@ -11,7 +11,7 @@ ghost use Rattle.texture_sys.specs.Batch.{batch_channels, batch_len, IsBatchInRa
 ghost use Rattle.texture_sys.specs.Batch.{IsPlaceInRange, place_value, place_visits};
 ghost use Rattle.texture_sys.specs.Batch.{AreAnswered, KeepsBehind};
 
-use crate::batch::{Batch, BatchOptions, Place};
+use crate::batch::{Batch, BatchOptions, LookupPoint};
 use crate::lookup::{Lookup, Lookups};
 use crate::lookup_request::LookupRequest;
 use crate::stopped::{Stopped, alone};
@@ -59,7 +59,7 @@ pub(crate) fn lookup_for<F: Fetch>(f: &mut F, r: &Lookup, out: &mut [u16]) -> Re
 fn place_for<F: Fetch>(
     f: &mut F,
     options: &BatchOptions,
-    place: &Place,
+    place: &LookupPoint,
     out: &mut [u16],
 ) -> Result<(), F::Error>
     requires count { length out.old ≡ batch_channels options.now }
@@ -81,7 +81,7 @@ fn place_for<F: Fetch>(
 fn place_from<F: Fetch>(
     f: &mut F,
     options: &BatchOptions,
-    place: &Place,
+    place: &LookupPoint,
     at: usize,
     out: &mut [u16],
 ) -> Result<(), F::Error>

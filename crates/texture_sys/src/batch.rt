@@ -7,7 +7,7 @@ use texel_filter::{Filter, FineRequest, Wrap};
 /// Where one lookup of a batch lies. A batch of points reads `s` and `t` alone.
 #[repr(C)]
 #[derive(Clone, Copy, Debug, PartialEq, Eq)]
-pub struct Place {
+pub struct LookupPoint {
     /// The coordinate across, in 1/2^32 of the width.
     pub s: i64,
     /// The coordinate down, in 1/2^32 of the height.
@@ -42,7 +42,7 @@ impl PointOptions {
 
     /// The lookup at a place.
     #[inline(always)]
-    pub fn at(&self, place: &Place) -> FineRequest
+    pub fn at(&self, place: &LookupPoint) -> FineRequest
         ensures { result ≡ point_at self.now place.now }
     {
         FineRequest {
@@ -75,7 +75,7 @@ impl FootprintOptions {
 
     /// The lookup at a place.
     #[inline(always)]
-    pub fn at(&self, place: &Place) -> EllipseRequest
+    pub fn at(&self, place: &LookupPoint) -> EllipseRequest
         ensures { result ≡ footprint_at self.now place.now }
     {
         EllipseRequest {
@@ -118,7 +118,7 @@ impl BatchOptions {
     }
 
     /// Whether a lookup at a place has all its numbers in range.
-    pub fn allow(&self, place: &Place) -> bool
+    pub fn allow(&self, place: &LookupPoint) -> bool
         ensures { IsTrue result ↔ IsPlaceInRange self.now place.now }
     {
         match self {
@@ -134,7 +134,7 @@ pub struct Batch<'a> {
     /// The options of every lookup.
     pub options: BatchOptions,
     /// The places.
-    pub places: &'a [Place],
+    pub places: &'a [LookupPoint],
 }
 
 impl Batch<'_> {

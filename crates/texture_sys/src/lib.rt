@@ -13,7 +13,7 @@ mod stopped;
 mod texels;
 mod texturing;
 
-pub use batch::{Batch, BatchOptions, FootprintOptions, Place, PointOptions};
+pub use batch::{Batch, BatchOptions, FootprintOptions, LookupPoint, PointOptions};
 pub use calls::{texture, texture_d};
 pub use local::{local_at, texture_local};
 pub use lookup::{FileLookup, FileLookups, Lookup, Lookups};

@@ -2,7 +2,7 @@
 use Rattle.std.proofs.Common.{◌≡◌, ℕ, List, [], ◌∷◌, refl, ap, ◌∙◌}
 use Rattle.std.specs.Option.{option_or}
 use Rattle.tiff_format.specs.declared.form.Form.{Form}
-use Rattle.tiff_entries.specs.declared.place.Place.{Place}
+use Rattle.tiff_entries.specs.declared.place.FilePlace.{FilePlace}
 use Rattle.tiff_dirs.specs.declared.read_level.ReadLevel.{ReadLevel}
 use Rattle.tiff_format.specs.Form.{form_of}
 use Rattle.tiff_format.specs.Directory.{directory_place}
@@ -15,7 +15,7 @@ use Rattle.tiff_entries.specs.Entries.{IsLinkAt}
 use Rattle.tiff_dirs.specs.ReadLevel.{IsLevelAt, seen_level}
 use Rattle.tiff_dirs.specs.Chain.{IsEnd}
 
-module _ (bytes : List ℕ) (place : Place) (is : IsHeader bytes place) where
+module _ (bytes : List ℕ) (place : FilePlace) (is : IsHeader bytes place) where
   place_there : place.at ≡ level_place bytes 0
   unfolding directory_place
   place_there = is.at

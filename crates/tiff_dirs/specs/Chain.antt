@@ -1,7 +1,7 @@
 -- What is true of the levels of a file while they are being read?
 use Rattle.std.specs.Prelude.{◌≡◌, ℕ, ◌<◌, true, List, map, None}
 use Rattle.std.specs.List.{range_with_len}
-use Rattle.tiff_entries.specs.declared.place.Place.{Place}
+use Rattle.tiff_entries.specs.declared.place.FilePlace.{FilePlace}
 use Rattle.tiff_format.specs.Form.{form_of}
 use Rattle.tiff_format.specs.Block.{Level}
 use Rattle.tiff_format.specs.DirectoryFault.{data_fault}
@@ -15,7 +15,7 @@ pub record AreLevels (bytes : List ℕ) (n : ℕ) (levels : List Level) : Type 0
   pub same : levels ≡ map (directory_level bytes) (range_with_len 0 n)
 
 -- the directory of level k names this place for the next one
-abbrev pub IsEnd : List ℕ → ℕ → Place → Type 0
+abbrev pub IsEnd : List ℕ → ℕ → FilePlace → Type 0
 IsEnd bytes k next = IsLinkAt (form_of bytes) bytes (level_place bytes k) next
 
 -- these are all levels of the file

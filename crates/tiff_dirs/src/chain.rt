@@ -25,7 +25,7 @@ use crate::read_level::ReadLevel;
 use crate::shape::ReadShape;
 use std::alloc::{AllocError, Global};
 use tiff_entries::tag::SAMPLES_PER_PIXEL;
-use tiff_entries::{ByteReader, DirsError, Place, read_directory};
+use tiff_entries::{ByteReader, DirsError, FilePlace, read_directory};
 use tiff_format::Dir;
 
 /// Sides are at most 131072 and halve from level to level, so there are at most 18 levels.
@@ -54,7 +54,7 @@ fn is_half(shape: &ReadShape, first: &Dir, last: &Dir) -> bool
 fn half_at<B: ByteReader>(
     alloc: Global,
     b: &mut B,
-    place: Place,
+    place: FilePlace,
     first: &Dir,
     last: &Dir,
 ) -> Result<Option<ReadLevel>, DirsError<B::Error>>
@@ -82,7 +82,7 @@ fn half_at<B: ByteReader>(
 fn next_level<B: ByteReader>(
     alloc: Global,
     b: &mut B,
-    next: Place,
+    next: FilePlace,
     first: &Dir,
     last: &Dir,
 ) -> Result<Option<ReadLevel>, DirsError<B::Error>>
@@ -125,7 +125,7 @@ fn follow<B: ByteReader>(
     alloc: Global,
     b: &mut B,
     levels: &mut Vec<Dir>,
-    first_next: Place,
+    first_next: FilePlace,
 ) -> Result<(), DirsError<B::Error>>
     requires one { length levels.old.items ≡ 1 }
     ensures told { ForSome (B.bytes b.old) (λ bytes.
@@ -154,7 +154,7 @@ fn follow<B: ByteReader>(
 fn first_level<B: ByteReader>(
     alloc: Global,
     b: &mut B,
-    place: Place,
+    place: FilePlace,
 ) -> Result<ReadLevel, DirsError<B::Error>>
     ensures told { ForSome (B.bytes b.old) (λ bytes.
         Finds (directory_fault place.form bytes place.at) (IsLevelAt place.form bytes place.at)
@@ -171,7 +171,7 @@ fn first_level<B: ByteReader>(
 pub fn read_levels<B: ByteReader>(
     alloc: Global,
     b: &mut B,
-    place: Place,
+    place: FilePlace,
 ) -> Result<Vec<Dir>, DirsError<B::Error>>
     ensures told { ForSome (B.bytes b.old) (λ bytes. IsHeader bytes place → Finds
         (first_of (directory_fault (form_of bytes) bytes (level_place bytes 0)

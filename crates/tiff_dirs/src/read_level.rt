@@ -5,7 +5,7 @@ ghost use Rattle.tiff_format.specs.Block.{blocks_of};
 ghost use Rattle.tiff_dirs.specs.Shape.{seen_shape};
 
 use crate::shape::ReadShape;
-use tiff_entries::Place;
+use tiff_entries::FilePlace;
 use tiff_format::{Dir, TiffFault};
 
 /// A level whose strips or tiles have not been checked yet.
@@ -14,7 +14,7 @@ pub struct ReadLevel {
     pub shape: ReadShape,
     pub offsets: Vec<u64>,
     /// The place of the next directory; 0 if none exists.
-    pub next: Place,
+    pub next: FilePlace,
     ghost count_in: { length offsets.items ≡ blocks_of (seen_shape shape) },
 }
 

@@ -38,7 +38,7 @@ pub struct SampleField {
 
 /// Some values of an entry: `count` of them, from one of them on.
 #[derive(Clone, Copy)]
-struct Stretch {
+struct ValueRange {
     from: u64,
     count: u64,
 }
@@ -72,7 +72,7 @@ impl SampleField {
         b: &mut B,
         entry: &Entry,
         buffer: &mut [u8],
-        stretch: Stretch,
+        stretch: ValueRange,
     ) -> Result<Option<u64>, DirsError<B::Error>>
         requires low { B.size b.old < 2 ^ 64 }
         requires shape { IsTrue (is_shaped (B.size b.old) entry.now) }
@@ -112,7 +112,7 @@ impl SampleField {
         let mut done = 0;
         'blocks: while done < count {
             let more = (count - done).min(most);
-            let stretch = Stretch {
+            let stretch = ValueRange {
                 from: done,
                 count: more,
             };

@@ -5,7 +5,7 @@ use Rattle.std.specs.Prelude.{Option, Some, None, ⊤, if◌then◌else◌}
 use Rattle.std.specs.Option.{option_or}
 use Rattle.std.specs.List.{list_any}
 use Rattle.tiff_format.specs.declared.form.Form.{Form}
-use Rattle.tiff_entries.specs.declared.place.Place.{Place}
+use Rattle.tiff_entries.specs.declared.place.FilePlace.{FilePlace}
 use Rattle.tiff_entries.specs.declared.tag.TheConstants.{TAGS}
 use Rattle.tiff_entries.specs.declared.entry.Entry.{Entry}
 use Rattle.tiff_entries.specs.declared.directory.Directory.{Directory}
@@ -91,7 +91,7 @@ abbrev pub noted : ℕ → Entry → ℕ → Option Entry → Option Entry
 noted tag entry t old = if tag == slice_index_or tags t 0 then option_or old (Some entry) else old
 
 -- `more` entries from a place on were added, and this is the offset after them
-pub record AddsBlock (place : Place) (bytes : List ℕ) (more : ℕ) (old new : List (Option Entry))
+pub record AddsBlock (place : FilePlace) (bytes : List ℕ) (more : ℕ) (old new : List (Option Entry))
     (offset : ℕ) : Type 0
   where
     pub covers : (first done : ℕ) → place.at ≡ first + entry_bytes place.form * done
@@ -101,7 +101,7 @@ pub record AddsBlock (place : Place) (bytes : List ℕ) (more : ℕ) (old new : 
 -- ---- the directory
 
 -- the place is that of the next directory, as this one names it; 0 if none exists
-pub record IsLinkAt (form : Form) (bytes : List ℕ) (at : ℕ) (link : Place) : Type 0 where
+pub record IsLinkAt (form : Form) (bytes : List ℕ) (at : ℕ) (link : FilePlace) : Type 0 where
   pub same : link.form ≡ form
   pub inside : lies_inside form bytes at ≡ true
   pub next : link.at ≡ offset_at form bytes (next_place form bytes at)

@@ -11,7 +11,7 @@ ghost use Rattle.tiff_entries.specs.declared.reader.TheConstants.{MAX_READ_BYTES
 
 use crate::error::DirsError;
 use crate::found::Found;
-use crate::place::Place;
+use crate::place::FilePlace;
 use crate::reader::{ByteReader, MAX_READ_BYTES, read_at};
 use std::alloc::Global;
 use tiff_format::{Form, MAX_COUNT_BYTES, TiffFault};
@@ -29,7 +29,7 @@ fn max_entries(form: Form) -> u64
 pub struct Directory {
     pub found: Found,
     /// 0 if there is no next directory.
-    pub next: Place,
+    pub next: FilePlace,
 }
 
 /// Whether `count` entries and an offset fit in `room` bytes.
@@ -43,7 +43,7 @@ fn has_room(form: Form, count: u64, room: u64) -> bool
 }
 
 /// Reads a directory's number of entries.
-fn read_count<B: ByteReader>(b: &mut B, place: Place) -> Result<u64, DirsError<B::Error>>
+fn read_count<B: ByteReader>(b: &mut B, place: FilePlace) -> Result<u64, DirsError<B::Error>>
     requires { place.at + count_bytes place.form ≤ B.size b.old }
     ensures told { ForSome (B.bytes b.old) (λ bytes.
         Reads (λ count. count ≡ entry_count place.form bytes place.at) result) }
@@ -57,7 +57,7 @@ fn read_count<B: ByteReader>(b: &mut B, place: Place) -> Result<u64, DirsError<B
 
 /// Reads a directory's number of entries, and checks that all of it lies in the file. It compares
 /// with the bytes left, because the sum of a place and a length may not fit 64 bits.
-fn count_of_entries<B: ByteReader>(b: &mut B, place: Place) -> Result<u64, DirsError<B::Error>>
+fn count_of_entries<B: ByteReader>(b: &mut B, place: FilePlace) -> Result<u64, DirsError<B::Error>>
     ensures told { ForSome (B.bytes b.old) (λ bytes.
         Finds (outside_fault place.form bytes place.at)
         (λ count. count ≡ entry_count place.form bytes place.at) result) }
@@ -91,7 +91,7 @@ fn bytes_of_entries(form: Form, more: u64) -> u64
 /// returns the offset.
 fn read_block<B: ByteReader>(
     b: &mut B,
-    place: Place,
+    place: FilePlace,
     found: &mut Found,
     buffer: &mut [u8],
     more: u64,
@@ -115,7 +115,7 @@ fn read_block<B: ByteReader>(
 fn read_entries<B: ByteReader>(
     alloc: Global,
     b: &mut B,
-    first: Place,
+    first: FilePlace,
     count: u64,
 ) -> Result<Directory, DirsError<B::Error>>
     requires inside { first.at + entry_bytes first.form * count + offset_bytes first.form
@@ -136,7 +136,7 @@ fn read_entries<B: ByteReader>(
         let at = read_block(b, place, &mut found, &mut buffer, more)?;
         done += more;
         if done == count {
-            let next = Place { form, at };
+            let next = FilePlace { form, at };
             return Ok(Directory { found, next });
         }
     }
@@ -146,7 +146,7 @@ fn read_entries<B: ByteReader>(
 pub fn read_directory<B: ByteReader>(
     alloc: Global,
     b: &mut B,
-    place: Place,
+    place: FilePlace,
 ) -> Result<Directory, DirsError<B::Error>>
     ensures told { ForSome (B.bytes b.old) (λ bytes.
         Finds (outside_fault place.form bytes place.at)

@@ -11,7 +11,7 @@ ghost use Rattle.tiff_entries.specs.Entries.{SpellValues};
 ghost use Rattle.tiff_entries.specs.Calls.{Reads, Leaves};
 
 use crate::error::DirsError;
-use crate::place::Place;
+use crate::place::FilePlace;
 use crate::reader::{ByteReader, read_at};
 use tiff_format::{Form, MAX_OFFSET_BYTES};
 
@@ -88,7 +88,7 @@ fn inner_of(form: Form, raw: &[u8]) -> [u8; MAX_OFFSET_BYTES]
 
 impl Entry {
     /// The entry at a place of a file, from its bytes.
-    pub fn from_bytes(place: Place, raw: &[u8]) -> Entry
+    pub fn from_bytes(place: FilePlace, raw: &[u8]) -> Entry
         requires long { entry_bytes place.form ≤ length raw.now }
         requires low { place.at + entry_bytes place.form < 2 ^ 64 }
         ensures form { result.form ≡ place.form }

@@ -17,7 +17,7 @@ ghost use Rattle.tiff_entries.specs.Entries.{entries_fault};
 ghost use Rattle.tiff_entries.specs.Calls.{OfEntries, Tests};
 
 use crate::entry::Entry;
-use crate::place::Place;
+use crate::place::FilePlace;
 use crate::tag::{
     STRIPPED_READ, STRIPPED_REQUIRED, TAG_COUNT, TAGS, TILE_WIDTH, TILED_READ, TILED_REQUIRED,
 };
@@ -54,7 +54,7 @@ impl Found {
 
     /// Keeps the first entry of each tag among the `more` entries in a buffer, which was read at
     /// `place`.
-    pub fn scan(&mut self, place: Place, part: &[u8], more: u64)
+    pub fn scan(&mut self, place: FilePlace, part: &[u8], more: u64)
         requires long { entry_bytes place.form * more ≤ length part.now }
         requires low { place.at + length part.now < 2 ^ 64 }
         ensures { (bytes : List ℕ) (first done : ℕ)

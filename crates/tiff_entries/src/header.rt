@@ -13,7 +13,7 @@ ghost use Rattle.tiff_entries.specs.Header.{IsHeader};
 ghost use Rattle.tiff_entries.specs.Calls.{Finds, Tests, Reads, Leaves};
 
 use crate::error::DirsError;
-use crate::place::Place;
+use crate::place::FilePlace;
 use crate::reader::{ByteReader, read_at};
 use tiff_format::{Form, HEADER_BYTES, MAX_OFFSET_BYTES, TiffFault};
 
@@ -110,7 +110,7 @@ fn read_first<B: ByteReader>(b: &mut B, form: Form, head: &[u8]) -> Result<u64, 
 }
 
 /// The place of the first directory. Reads the header in one read, or in two for BigTIFF.
-pub fn read_header<B: ByteReader>(b: &mut B) -> Result<Place, DirsError<B::Error>>
+pub fn read_header<B: ByteReader>(b: &mut B) -> Result<FilePlace, DirsError<B::Error>>
     ensures told { ForSome (B.bytes b.old) (λ bytes.
         Finds (header_fault bytes) (IsHeader bytes) result) }
     ensures reader { Leaves B.keeps B.refuses b.old b.new result }
@@ -123,5 +123,5 @@ pub fn read_header<B: ByteReader>(b: &mut B) -> Result<Place, DirsError<B::Error
     read_at(b, 0, &mut head)?;
     let form = form_of_head(&head, file)?;
     let at = read_first(b, form, &head)?;
-    Ok(Place { form, at })
+    Ok(FilePlace { form, at })
 }

@@ -15,5 +15,5 @@ pub use entry::{Entry, LONG_BYTES, LONG8_BYTES};
 pub use error::DirsError;
 pub use found::Found;
 pub use header::read_header;
-pub use place::Place;
+pub use place::FilePlace;
 pub use reader::{ByteReader, MAX_READ_BYTES};

@@ -5,19 +5,19 @@ use tiff_format::Form;
 
 /// A place in a file of this form.
 #[derive(Clone, Copy)]
-pub struct Place {
+pub struct FilePlace {
     pub form: Form,
     pub at: u64,
 }
 
-impl Place {
+impl FilePlace {
     /// The place `bytes` bytes further.
-    pub fn behind(self, bytes: u64) -> Place
+    pub fn behind(self, bytes: u64) -> FilePlace
         requires { self.at + bytes < 2 ^ 64 }
         ensures form { result.form ≡ self.form }
         ensures at { result.at ≡ self.at + bytes }
     {
-        Place {
+        FilePlace {
             form: self.form,
             at: self.at + bytes,
         }

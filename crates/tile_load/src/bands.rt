@@ -3,7 +3,7 @@
 ghost use Rattle.std.specs.Prelude.{◌≡◌, ◌-◌, ◌<◌, ◌≤◌};
 
 use crate::tiles::tile_row;
-use rect_read::{MAX_GAP, Place};
+use rect_read::{MAX_GAP, PlaneRect};
 use std::alloc::Global;
 use tap_reader::{Band, CellRows, MAX_AHEAD_BYTES, MAX_STRETCH_BYTES, ReadAhead, Rows};
 use tex_world::World;
@@ -13,7 +13,7 @@ use tiff_format::Rect;
 const MAX_PARTS: u32 = 64;
 
 /// Where a row of a place begins in the file.
-fn row_start(place: &Place<'_>, row: u32) -> Option<u64>
+fn row_start(place: &PlaneRect<'_>, row: u32) -> Option<u64>
     requires { row < place.now.rect.h }
 {
     let row = Rect {
@@ -31,7 +31,7 @@ fn row_start(place: &Place<'_>, row: u32) -> Option<u64>
 
 /// Where the last row of a place begins, if the rows are `stride` bytes apart on average. Otherwise
 /// `None`.
-fn last_start(place: &Place<'_>, first: u64, stride: u64) -> Option<u64> {
+fn last_start(place: &PlaneRect<'_>, first: u64, stride: u64) -> Option<u64> {
     let rows = place.rect.h.checked_sub(1)?;
     let last = row_start(place, rows)?;
     let apart = u64::from(rows).checked_mul(stride)?;
@@ -44,7 +44,7 @@ fn last_start(place: &Place<'_>, first: u64, stride: u64) -> Option<u64> {
 
 /// The rows of a place in a stripped level, if more bytes lie between two rows than are read with
 /// them.
-fn cell_rows(place: &Place<'_>, texel_bytes: u64) -> Option<CellRows> {
+fn cell_rows(place: &PlaneRect<'_>, texel_bytes: u64) -> Option<CellRows> {
     let rect = place.rect;
     let count = usize::try_from(rect.h).ok()?;
     if count == 0 {
@@ -76,14 +76,14 @@ fn cell_rows(place: &Place<'_>, texel_bytes: u64) -> Option<CellRows> {
 pub(crate) fn next_bands<W: World>(
     alloc: Global,
     ahead: &mut ReadAhead<W>,
-    place: &Place<'_>,
+    place: &PlaneRect<'_>,
 ) -> Vec<Band>
     ensures { ahead.new ≡ ahead.old }
 {
     let planes = place.layout.planes(place.level);
     let mut bands = Vec::new(alloc);
     for plane in 0..planes {
-        let alone = Place {
+        let alone = PlaneRect {
             layout: place.layout,
             level: place.level,
             plane,
@@ -100,7 +100,7 @@ pub(crate) fn next_bands<W: World>(
 }
 
 /// The stretch from which the rows of one plane are cut, if they are read all at once.
-fn next_band<W: World>(ahead: &mut ReadAhead<W>, place: &Place<'_>) -> Option<Band>
+fn next_band<W: World>(ahead: &mut ReadAhead<W>, place: &PlaneRect<'_>) -> Option<Band>
     ensures { ahead.new ≡ ahead.old }
 {
     let format = place.layout.format(place.level, place.plane);
@@ -114,7 +114,7 @@ fn next_band<W: World>(ahead: &mut ReadAhead<W>, place: &Place<'_>) -> Option<Ba
 
 /// How many rows to read at once, after `done` rows: as many as are left in the strip and fit a
 /// stretch. 0 if that is less than two.
-fn rows_at_once(place: &Place<'_>, done: u32) -> u32
+fn rows_at_once(place: &PlaneRect<'_>, done: u32) -> u32
     ensures { result ≤ place.now.rect.h - done }
 {
     let format = place.layout.format(place.level, place.plane);
@@ -129,7 +129,7 @@ fn rows_at_once(place: &Place<'_>, done: u32) -> u32
 }
 
 /// The part of a place that is read at once, after `done` rows.
-fn part_behind<'a>(place: &Place<'a>, done: u32) -> Option<Place<'a>> {
+fn part_behind<'a>(place: &PlaneRect<'a>, done: u32) -> Option<PlaneRect<'a>> {
     let rows = rows_at_once(place, done);
     if rows == 0 {
         return None;
@@ -140,7 +140,7 @@ fn part_behind<'a>(place: &Place<'a>, done: u32) -> Option<Place<'a>> {
         w: place.rect.w,
         h: rows,
     };
-    Some(Place {
+    Some(PlaneRect {
         layout: place.layout,
         level: place.level,
         plane: place.plane,
@@ -150,7 +150,7 @@ fn part_behind<'a>(place: &Place<'a>, done: u32) -> Option<Place<'a>> {
 
 /// Plans the stretches of a plane that is read in parts: in each strip, as many rows at once as fit
 /// a stretch.
-fn add_parts<W: World>(ahead: &mut ReadAhead<W>, place: &Place<'_>, bands: &mut Vec<Band>)
+fn add_parts<W: World>(ahead: &mut ReadAhead<W>, place: &PlaneRect<'_>, bands: &mut Vec<Band>)
     ensures { ahead.new ≡ ahead.old }
 {
     let mut done = 0u32;

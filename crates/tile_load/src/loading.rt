@@ -11,14 +11,14 @@ ghost use Rattle.tile_load.specs.Load.{IsLayoutOf, IsReadBy, NamesCell};
 ghost use Rattle.piece_samples.specs.Beyond.{CountAsZero, IsFilled, IsAllBeyond};
 ghost use Rattle.tile_load.specs.CellTile.{IsCellTile, HasZeros, IsCellBeyond};
 ghost use Rattle.tile_load.specs.LoadError.{LeavesTap};
-ghost use Rattle.rect_read.specs.Texels.{samples_of};
+ghost use Rattle.rect_read.specs.RectSamples.{samples_of};
 ghost use Rattle.tile_store.specs.Tile.{cached_tile, IsTile};
 ghost use Rattle.tile_store.specs.Told.{IsTold};
 
 use crate::bands::next_bands;
 use crate::load_error::{LoadError, load_error};
 use file_table::Record;
-use rect_read::{Place, Texels, read_texels};
+use rect_read::{PlaneRect, RectSamples, read_texels};
 use std::alloc::Global;
 use tap_reader::{AheadReader, OpenFile};
 use tex_world::{Tap, World};
@@ -97,7 +97,7 @@ pub fn load_at<T: Tap>(
     let rect = layout.cell_rect(level, cut, key.index());
     // needed by the proof: each stored level has a first plane
     let _ = layout.planes(level);
-    let place = Place {
+    let place = PlaneRect {
         layout,
         level,
         plane: 0,
@@ -110,14 +110,19 @@ pub fn load_at<T: Tap>(
 }
 
 /// The tile with this key, rectangle and texels.
-pub(crate) fn tile_of<W: World>(key: TileKey, rect: Rect, channels: u32, texels: Texels) -> Tile<W>
+pub(crate) fn tile_of<W: World>(
+    key: TileKey,
+    rect: Rect,
+    channels: u32,
+    texels: RectSamples,
+) -> Tile<W>
     requires tile { IsTile (cached_tile key rect channels (samples_of texels)) }
     requires told { IsTold W.files (cached_tile key rect channels (samples_of texels)) }
     ensures { result ≡ cached_tile key rect channels (samples_of texels) }
 {
     match texels {
-        Texels::Bytes(texels) => Tile::of_bytes(key, rect, channels, texels),
-        Texels::Shorts(texels) => Tile::new(key, rect, channels, texels),
+        RectSamples::Bytes(texels) => Tile::of_bytes(key, rect, channels, texels),
+        RectSamples::Shorts(texels) => Tile::new(key, rect, channels, texels),
     }
 }
 
@@ -126,8 +131,8 @@ fn read_place<T: Tap>(
     alloc: Global,
     tap: &mut T,
     file: &mut OpenFile<T>,
-    place: &Place<'_>,
-) -> Result<Texels, LoadError>
+    place: &PlaneRect<'_>,
+) -> Result<RectSamples, LoadError>
     requires layout { ForSome (T.W.files.held (T.Handle.named file.old.handle).file
         (T.Handle.named file.old.handle).generation)
         (λ bytes. IsLayoutOf bytes place.now.layout.now) }

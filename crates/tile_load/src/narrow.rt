@@ -1,9 +1,9 @@
 //! Keeps the samples of 8-bit files as one byte each.
 
 ghost use Rattle.std.specs.Prelude.{◌≡◌, ℕ, ◌<◌, ◌≤◌, length, slice_index, IfSome};
-ghost use Rattle.rect_read.specs.Texels.{samples_of};
+ghost use Rattle.rect_read.specs.RectSamples.{samples_of};
 
-use rect_read::{Texels, narrowed};
+use rect_read::{RectSamples, narrowed};
 use std::alloc::Global;
 
 /// The bits of a sample that fits a byte.
@@ -31,13 +31,13 @@ fn bytes_of(alloc: Global, samples: &[u16]) -> Option<Vec<u8>>
 }
 
 /// The samples of a file with this number of bits, in the form that a tile keeps.
-pub(crate) fn kept_samples(depth: u32, samples: Vec<u16>) -> Texels
+pub(crate) fn kept_samples(depth: u32, samples: Vec<u16>) -> RectSamples
     ensures { samples_of result ≡ samples.items }
 {
     if depth == NARROW_DEPTH
         && let Some(bytes) = bytes_of(*samples.allocator(), &samples)
     {
-        return Texels::Bytes(bytes);
+        return RectSamples::Bytes(bytes);
     }
-    Texels::Shorts(samples)
+    RectSamples::Shorts(samples)
 }

@@ -1,6 +1,6 @@
 //! Plans read-ahead for stored tiles that follow one another in the file.
 
-use rect_read::Place;
+use rect_read::PlaneRect;
 use tap_reader::{CellRows, MAX_STRETCH_BYTES, Rows};
 use tiff_format::Rect;
 
@@ -11,7 +11,7 @@ const MAX_TILES: u64 = 32;
 const NO_PLACE: u64 = u64::MAX;
 
 /// Where the bytes of a texel begin in the file.
-fn texel_start(place: &Place<'_>, x: u64, y: u64) -> Option<u64> {
+fn texel_start(place: &PlaneRect<'_>, x: u64, y: u64) -> Option<u64> {
     let (width, height) = place.layout.size(place.level);
     if x >= u64::from(width) || y >= u64::from(height) {
         return None;
@@ -31,7 +31,7 @@ fn texel_start(place: &Place<'_>, x: u64, y: u64) -> Option<u64> {
 
 /// The bytes of the stored tile at a place. `None` if the place is not a whole stored tile, has no
 /// right neighbour, or if two of them are too large to read at once.
-fn tile_bytes(place: &Place<'_>, texel_bytes: u64) -> Option<u64> {
+fn tile_bytes(place: &PlaneRect<'_>, texel_bytes: u64) -> Option<u64> {
     let rect = place.rect;
     let (width, height) = place.layout.size(place.level);
     let wide = place.layout.block_width(place.level);
@@ -54,7 +54,7 @@ fn tile_bytes(place: &Place<'_>, texel_bytes: u64) -> Option<u64> {
 /// How many bytes of whole tiles follow one another in the file, from this tile to the right. Only
 /// the first and the last tile are compared. That is enough, because no proof depends on the
 /// result.
-fn side_by_side(place: &Place<'_>, at: u64, bytes: u64) -> u64 {
+fn side_by_side(place: &PlaneRect<'_>, at: u64, bytes: u64) -> u64 {
     let (width, _) = place.layout.size(place.level);
     let wide = u64::from(place.layout.block_width(place.level));
     let right = u64::from(width).saturating_sub(u64::from(place.rect.x));
@@ -69,7 +69,7 @@ fn side_by_side(place: &Place<'_>, at: u64, bytes: u64) -> u64 {
 }
 
 /// Whether the tile `tiles` places to the right begins exactly that many tiles later in the file.
-fn stands_behind(place: &Place<'_>, at: u64, tiles: u64, bytes: u64) -> bool {
+fn stands_behind(place: &PlaneRect<'_>, at: u64, tiles: u64, bytes: u64) -> bool {
     let wide = u64::from(place.layout.block_width(place.level));
     let x = u64::from(place.rect.x).saturating_add(tiles.saturating_mul(wide));
     let start = texel_start(place, x, u64::from(place.rect.y));
@@ -78,7 +78,7 @@ fn stands_behind(place: &Place<'_>, at: u64, tiles: u64, bytes: u64) -> bool {
 
 /// A stored tile as one row of bytes, which continues with the tiles to its right as far as they
 /// follow one another in the file.
-pub(crate) fn tile_row(place: &Place<'_>, texel_bytes: u64) -> Option<CellRows> {
+pub(crate) fn tile_row(place: &PlaneRect<'_>, texel_bytes: u64) -> Option<CellRows> {
     let bytes = tile_bytes(place, texel_bytes)?;
     let (x, y) = (u64::from(place.rect.x), u64::from(place.rect.y));
     let at = texel_start(place, x, y)?;

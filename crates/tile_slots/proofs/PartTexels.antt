@@ -14,9 +14,9 @@ use Rattle.tile_layout.specs.Texel.{texel_at, AreTexelsOn, FitDepth}
 use Rattle.tile_layout.proofs.StoredTexels.{texel_stored, holds_level}
 use Rattle.piece_samples.specs.Beyond.{CountAsZero}
 use Rattle.piece_samples.specs.LayoutOf.{IsLayoutOf}
-use Rattle.piece_samples.specs.Row.{row_rect}
+use Rattle.piece_samples.specs.TexelRow.{row_rect}
 use Rattle.piece_samples.proofs.LowSamples.{each_low}
-use Rattle.tile_slots.specs.Part.{IsTexelSample}
+use Rattle.tile_slots.specs.RowPart.{IsTexelSample}
 use Rattle.tile_slots.specs.Slot.{AreRowZeros}
 
 -- ---- a row that was read to the front of its buffer

@@ -1,3 +1,3 @@
-pub mod Part
+pub mod RowPart
 pub mod FillError
 pub mod Slot

@@ -11,7 +11,7 @@ use Rattle.tile_layout.specs.Texel.{texel_at, FitDepth}
 use Rattle.piece_samples.specs.Beyond.{IsBeyond}
 use Rattle.tile_slots.specs.declared.extent.Extent.{Extent}
 use Rattle.tile_slots.specs.declared.part_key.PartKey.{PartKey}
-use Rattle.tile_slots.specs.Part.{part_left, part_texels, texels_of}
+use Rattle.tile_slots.specs.RowPart.{part_left, part_texels, texels_of}
 
 -- these are the samples of a part in a file with these bytes, all samples of a texel together,
 -- within the file's number of bits

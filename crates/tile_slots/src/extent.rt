@@ -1,7 +1,7 @@
 //! Which texels the samples in a slot belong to.
 ghost use Rattle.std.specs.Prelude.{◌≤◌, ◌↔◌, IsTrue};
 ghost use Rattle.tiff_format.specs.Limits.{max_channels};
-ghost use Rattle.tile_slots.specs.Part.{part_texels};
+ghost use Rattle.tile_slots.specs.RowPart.{part_texels};
 
 use crate::part_key::{PART_TEXELS, PartKey};
 

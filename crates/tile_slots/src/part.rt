@@ -5,7 +5,7 @@ ghost use Rattle.std.specs.Prelude.{length, slice_index, IsTrue, IsSomeAnd, IfSo
 ghost use Rattle.std.specs.Bool.{OnTrue};
 ghost use Rattle.std.specs.Option.{ForSome};
 ghost use Rattle.tile_layout.specs.Kept.{kept_of};
-ghost use Rattle.tile_slots.specs.Part.{AreToldAt, IsTexelOf};
+ghost use Rattle.tile_slots.specs.RowPart.{AreToldAt, IsTexelOf};
 ghost use Rattle.tile_slots.specs.Slot.{HasTexel, IsToldPart};
 
 use crate::extent::Extent;
@@ -20,13 +20,13 @@ pub(crate) const PART_SAMPLES: usize = 512;
 /// The samples of a part of a row, all samples of a texel together, or none yet. In a modelled
 /// world they are those of the level, within the file's number of bits.
 #[derive(Drop)]
-pub(crate) struct Part<W: World> {
+pub(crate) struct RowPart<W: World> {
     extent: Option<Extent>,
     samples: [u16; PART_SAMPLES],
     world: PhantomData<W>,
 }
 
-impl<W: World> Fits for Part<W> {
+impl<W: World> Fits for RowPart<W> {
     type Tag = ();
 
     ghost fits = { λ _ part. IfSome part.extent (λ e. IsToldPart W.files e part.samples) };
@@ -42,12 +42,12 @@ pub(crate) fn copy_texel(samples: &[u16], column: usize, out: &mut [u16])
     out.copy_from_slice(&samples[column * n..column * n + n]);
 }
 
-impl<W: World> Part<W> {
+impl<W: World> RowPart<W> {
     /// No samples yet.
-    pub(crate) fn none() -> Part<W>
+    pub(crate) fn none() -> RowPart<W>
         ensures { result.extent ≡ None }
     {
-        Part {
+        RowPart {
             extent: None,
             samples: [0; PART_SAMPLES],
             world: PhantomData,
@@ -55,11 +55,11 @@ impl<W: World> Part<W> {
     }
 
     /// The samples of a part.
-    pub(crate) fn of(extent: Extent, samples: [u16; PART_SAMPLES]) -> Part<W>
+    pub(crate) fn of(extent: Extent, samples: [u16; PART_SAMPLES]) -> RowPart<W>
         ensures extent { result.extent ≡ Some extent }
         ensures samples { result.samples ≡ samples }
     {
-        Part {
+        RowPart {
             extent: Some(extent),
             samples,
             world: PhantomData,

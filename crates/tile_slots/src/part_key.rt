@@ -1,6 +1,6 @@
 //! The name of a part of a row.
 ghost use Rattle.std.specs.Prelude.{◌≡◌, ◌<◌, ◌≢◌};
-ghost use Rattle.tile_slots.specs.Part.{slot_of};
+ghost use Rattle.tile_slots.specs.RowPart.{slot_of};
 
 /// The texels of a part. Only the last part of a row can have fewer.
 pub const PART_TEXELS: u32 = 64;

@@ -8,12 +8,12 @@ ghost use Rattle.tile_layout.specs.Kept.{level_in};
 ghost use Rattle.tile_layout.specs.Texel.{texel_at, FitDepth};
 ghost use Rattle.piece_samples.specs.Beyond.{IsAllBeyond};
 ghost use Rattle.piece_samples.specs.LayoutOf.{IsLayoutOf};
-ghost use Rattle.piece_samples.specs.Row.{row_rect};
+ghost use Rattle.piece_samples.specs.TexelRow.{row_rect};
 ghost use Rattle.tile_slots.specs.FillError.{LeavesTap};
 ghost use Rattle.tile_slots.specs.Slot.{AreRowZeros};
 
 use crate::fill_error::{FillError, fill_error};
-use piece_samples::{Row, read_row};
+use piece_samples::{TexelRow, read_row};
 use tap_reader::TapReader;
 use tex_world::Tap;
 
@@ -22,7 +22,7 @@ use tex_world::Tap;
 pub(crate) fn read_samples<T: Tap>(
     tap: &mut T,
     h: &mut T::Handle,
-    row: &Row<'_>,
+    row: &TexelRow<'_>,
     samples: &mut [u16],
 ) -> Result<(), FillError>
     requires room { row.now.n * (level_in row.now.layout.now row.now.level).shape.channels

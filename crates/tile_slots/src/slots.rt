@@ -8,18 +8,18 @@ ghost use Rattle.tap_reader.specs.TapReader.{lent_of};
 ghost use Rattle.tile_layout.specs.Kept.{kept_of};
 ghost use Rattle.piece_samples.specs.LayoutOf.{IsLayoutOf};
 ghost use Rattle.tile_slots.specs.FillError.{LeavesTap};
-ghost use Rattle.tile_slots.specs.Part.{AreToldAt, IsTexelOf, IsPartBy, AreTexelZeros};
-ghost use Rattle.tile_slots.specs.Part.{IsPartBeyond};
+ghost use Rattle.tile_slots.specs.RowPart.{AreToldAt, IsTexelOf, IsPartBy, AreTexelZeros};
+ghost use Rattle.tile_slots.specs.RowPart.{IsPartBeyond};
 ghost use Rattle.tile_slots.specs.Slot.{IsToldPart};
 
 use crate::claims::{claim_to_read, claim_to_write};
 use crate::extent::Extent;
 use crate::fill_error::FillError;
-use crate::part::{PART_SAMPLES, Part, copy_texel};
+use crate::part::{PART_SAMPLES, RowPart, copy_texel};
 use crate::part_key::{PART_TEXELS, PartKey};
 use crate::reading::read_samples;
 use counted_slot::{Counted, PRESENT};
-use piece_samples::Row;
+use piece_samples::TexelRow;
 use std::alloc::{AllocError, Global};
 use std::marker::Model;
 use tex_world::{NoMemory, Tap, World};
@@ -32,7 +32,7 @@ pub const MAX_SLOTS: u32 = 65536;
 /// thread may fill a slot at any time.
 #[derive(Drop)]
 pub struct Slots<W: World> {
-    slots: Vec<Counted<Part<W>>>,
+    slots: Vec<Counted<RowPart<W>>>,
 }
 
 impl<W: World> Model for Slots<W> {
@@ -44,12 +44,12 @@ impl<W: World> Model for Slots<W> {
 }
 
 /// `count` empty slots.
-fn empty_slots<W: World>(alloc: Global, count: u32) -> Result<Vec<Counted<Part<W>>>, AllocError>
+fn empty_slots<W: World>(alloc: Global, count: u32) -> Result<Vec<Counted<RowPart<W>>>, AllocError>
     ensures { IfOk result (λ slots. length slots.items ≡ count) }
 {
     let mut slots = Vec::with_capacity(alloc, count as usize)?;
     for _made in 0..count {
-        slots.push(Counted::new(Part::none(), &()))?;
+        slots.push(Counted::new(RowPart::none(), &()))?;
     }
     Ok(slots)
 }
@@ -65,7 +65,7 @@ impl<W: World> Slots<W> {
     }
 
     /// The slot of a key, if there are any slots.
-    fn slot(&self, key: &PartKey) -> Option<&Counted<Part<W>>>
+    fn slot(&self, key: &PartKey) -> Option<&Counted<RowPart<W>>>
         ensures none { self.now ≡ 0 → result ≡ None }
     {
         let count = self.slots.len() as u64;
@@ -134,7 +134,7 @@ impl<W: World> Slots<W> {
         let channels = layout.channels();
         let left = key.part * PART_TEXELS;
         let (width, _height) = layout.size(key.level);
-        let row = Row {
+        let row = TexelRow {
             layout,
             level: key.level,
             x: left,
@@ -149,11 +149,11 @@ impl<W: World> Slots<W> {
             texels: row.n,
             channels,
         };
-        Ok(self.put(key, Part::of(extent, samples)))
+        Ok(self.put(key, RowPart::of(extent, samples)))
     }
 
     /// Puts a part into the slot of its key, if one claim succeeds.
-    fn put(&self, key: PartKey, part: Part<W>) -> bool
+    fn put(&self, key: PartKey, part: RowPart<W>) -> bool
         requires { IfSome part.extent (λ e. IsToldPart W.files e part.samples) }
         ensures none { self.now ≡ 0 → result ≡ false }
     {

@@ -19,7 +19,7 @@ use Rattle.pinned_tiles.specs.Cell.{is_tile_of}
 use Rattle.texel_values.specs.declared.texel_at.TexelAt.{TexelAt}
 use Rattle.texel_values.specs.Values.{AreValuesAt, sample_value}
 use Rattle.texel_values.proofs.ValueLemmas.{values_of_texel}
-use Rattle.tile_slots.specs.Part.{AreTexelOf, IsTexelOf}
+use Rattle.tile_slots.specs.RowPart.{AreTexelOf, IsTexelOf}
 use Rattle.tile_layout.specs.Kept.{stored_count}
 use Rattle.std.specs.Option.{ForSome}
 use Rattle.tile_source.specs.Texel.{IsCellOf, IsTexelIn, IsStoredTexel, IsStoredAt}

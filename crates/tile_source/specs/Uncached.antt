@@ -4,7 +4,7 @@ use Rattle.tex_world.specs.World.{Files}
 use Rattle.file_table.specs.Record.{RecordState}
 use Rattle.texel_values.specs.declared.texel_at.TexelAt.{TexelAt}
 use Rattle.tile_slots.specs.declared.part_key.PartKey.{PartKey}
-use Rattle.tile_slots.specs.Part.{part_texels, AreToldAt}
+use Rattle.tile_slots.specs.RowPart.{part_texels, AreToldAt}
 
 -- the part of its row that holds the texel
 abbrev pub part_at : RecordState → TexelAt → PartKey

@@ -7,7 +7,7 @@ use Rattle.std.proofs.lemmas.Bool.{eq-eqb, eqb-true}
 use Rattle.std.proofs.lemmas.Bool.Decides.{nat_tests}
 use Rattle.std.proofs.lemmas.List.Elements.{All-cons, All-head, All-tail}
 use Rattle.std.proofs.lemmas.List.Sums.{sum_by-cons}
-use Rattle.tile_store.specs.Entry.{EntryState, Entries, unpinned_bytes, pin_sum, loose_bytes, is_unpinned}
+use Rattle.tile_store.specs.CachedTile.{EntryState, Entries, unpinned_bytes, pin_sum, loose_bytes, is_unpinned}
 use Rattle.tile_store.specs.Changes.{without_last_unpinned}
 use Rattle.tile_store.specs.Leaving.{IsLastUnpinned}
 

@@ -7,7 +7,7 @@ use Rattle.std.proofs.lemmas.Bool.{eq-eqb, eqb-true, ne_eqb}
 use Rattle.std.proofs.lemmas.Bool.{false≢true}
 use Rattle.std.proofs.lemmas.Grind.{get_or-set_at}
 use Rattle.std.proofs.lemmas.List.{length-set, get_or-set_other}
-use Rattle.tile_store.specs.Entry.{EntryState}
+use Rattle.tile_store.specs.CachedTile.{EntryState}
 use Rattle.tile_store.specs.Links.{Linked, linked, is_in}
 use Rattle.tile_store.specs.Order.{entry_in, in_front, entries_of, IsOrder}
 use Rattle.tile_store.specs.Keys.{slot_of}

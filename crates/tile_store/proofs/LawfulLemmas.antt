@@ -7,8 +7,8 @@ use Rattle.std.proofs.lemmas.List.Elements.{All-nil, All-cons, All-filter}
 use Rattle.std.proofs.lemmas.List.Sums.{sum_by-cons}
 use Rattle.tex_world.specs.World.{Files}
 use Rattle.tile_store.specs.Tile.{CachedTile}
-use Rattle.tile_store.specs.Entry.{EntryState, Entries, unpinned_bytes, loose_bytes, entry_at, HasPin}
-use Rattle.tile_store.specs.Entry.{AreEntries, IsEntry, is_unpinned}
+use Rattle.tile_store.specs.CachedTile.{EntryState, Entries, unpinned_bytes, loose_bytes, entry_at, HasPin}
+use Rattle.tile_store.specs.CachedTile.{AreEntries, IsEntry, is_unpinned}
 use Rattle.tile_store.specs.Changes.{pinned_first, unpinned_once, with_first, with_room, kept_within}
 use Rattle.tile_store.specs.Changes.{without_last_unpinned, without_stale, is_stale, new_entry}
 use Rattle.tile_store.specs.Tag.{share_in_tag, cut_of}

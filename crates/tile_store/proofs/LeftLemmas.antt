@@ -8,7 +8,7 @@ use Rattle.std.proofs.Common.{append-nil, set-set, Result, Ok, Err, OnOk}
 use Rattle.std.proofs.lemmas.Bool.{eq-eqb, or_left, or_parts, or_from, cases_lt, false≢true}
 use Rattle.std.proofs.lemmas.Grind.{get_or-set_at}
 use Rattle.std.proofs.lemmas.List.{length-set, get_or-set_other, drop_all, drop-append-le}
-use Rattle.tile_store.specs.Entry.{EntryState, entry_at}
+use Rattle.tile_store.specs.CachedTile.{EntryState, entry_at}
 use Rattle.tile_store.specs.Links.{Linked, is_in, last_of}
 use Rattle.tile_store.specs.Keys.{key_in, slot_of, keyed_at, without_key}
 use Rattle.tile_store.specs.Slots.{ShardState, AreInSlots, SameSlots, LosesKey, EmptiesSlots, FillsSlot}

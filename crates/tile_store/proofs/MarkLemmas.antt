@@ -7,7 +7,7 @@ use Rattle.std.proofs.lemmas.Bool.{eqb-true, eqb-false, cases_lt, false≢true}
 use Rattle.std.proofs.lemmas.List.{get_or-set_same, get_or-set_other, get_or_past}
 use Rattle.std.proofs.lemmas.List.Elements.{All-nil, All-cons, All-head, All-tail}
 use Rattle.tile_layout.specs.Key.{file_bits, generation_of, file_of}
-use Rattle.tile_store.specs.Entry.{EntryState, Entries, is_unpinned}
+use Rattle.tile_store.specs.CachedTile.{EntryState, Entries, is_unpinned}
 use Rattle.tile_store.specs.Changes.{is_stale, without_stale}
 use Rattle.tile_store.specs.Order.{entry_in, in_front, entries_of}
 use Rattle.tile_store.specs.Marks.{is_marked, HasMark, IsOfOther, marked, unmarked}

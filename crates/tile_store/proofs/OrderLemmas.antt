@@ -8,7 +8,7 @@ use Rattle.std.proofs.lemmas.Bool.{eq-eqb, eqb-true, eqb-false, ne_eqb, or_parts
 use Rattle.std.proofs.lemmas.Bool.{cases_eq, false≢true}
 use Rattle.std.proofs.lemmas.Grind.{get_or-set_at}
 use Rattle.std.proofs.lemmas.List.{get_or-set_other}
-use Rattle.tile_store.specs.Entry.{EntryState, Entries, entry_at}
+use Rattle.tile_store.specs.CachedTile.{EntryState, Entries, entry_at}
 use Rattle.tile_store.specs.Links.{Linked, is_in, without}
 use Rattle.tile_store.specs.Order.{entry_in, in_front, entries_of, IsOrder}
 use Rattle.tile_store.specs.Keys.{slot_of}

@@ -10,8 +10,8 @@ use Rattle.std.proofs.lemmas.List.Sums.{sum_by-cons}
 use Rattle.std.proofs.lemmas.Map.{length-set_value}
 use Rattle.std.proofs.lemmas.Map.Entries.{sum_by-remove_entry, sum_by-set_value}
 use Rattle.tile_store.specs.Tile.{CachedTile}
-use Rattle.tile_store.specs.Entry.{EntryState, Entries, unpinned_bytes, pin_sum, loose_bytes}
-use Rattle.tile_store.specs.Entry.{entry_at, unpinned_at}
+use Rattle.tile_store.specs.CachedTile.{EntryState, Entries, unpinned_bytes, pin_sum, loose_bytes}
+use Rattle.tile_store.specs.CachedTile.{entry_at, unpinned_at}
 use Rattle.tile_store.specs.Changes.{one_more, one_less, pinned_first, unpinned_once}
 use Rattle.tile_store.specs.Inside.{CanPin}
 use Rattle.tile_store.proofs.MapLemmas.{found as lookup_found}

@@ -8,7 +8,7 @@ use Rattle.std.proofs.Math.Seq.{take-append_seam, drop-append_seam, take-length,
 use Rattle.std.proofs.lemmas.List.{length-take}
 use Rattle.std.proofs.lemmas.Bool.{eq-eqb}
 use Rattle.std.proofs.lemmas.List.Sums.{sum_by-cons}
-use Rattle.tile_store.specs.Entry.{EntryState, Entries, unpinned_bytes, loose_bytes}
+use Rattle.tile_store.specs.CachedTile.{EntryState, Entries, unpinned_bytes, loose_bytes}
 use Rattle.tile_store.specs.Changes.{is_stale, without_stale}
 use Rattle.tile_store.specs.Leaving.{last_entry, promoted, all_but_last, turned}
 use Rattle.tile_store.proofs.MapLemmas.{cut_at, cut_end, last_of_push}

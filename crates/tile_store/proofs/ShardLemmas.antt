@@ -11,8 +11,8 @@ use Rattle.std.proofs.lemmas.List.Sums.{sum_by-cons, length-filter, count_by-le-
 use Rattle.tile_layout.specs.Cell.{max_cell_bytes}
 use Rattle.tile_layout.specs.Key.{generation_of, file_of}
 use Rattle.tile_store.specs.Tile.{CachedTile, tile_bytes}
-use Rattle.tile_store.specs.Entry.{EntryState, Entries, unpinned_bytes, pin_sum, loose_bytes}
-use Rattle.tile_store.specs.Entry.{entry_at, unpinned_at, IsEntry, is_unpinned, is_pinned, pinned_count}
+use Rattle.tile_store.specs.CachedTile.{EntryState, Entries, unpinned_bytes, pin_sum, loose_bytes}
+use Rattle.tile_store.specs.CachedTile.{entry_at, unpinned_at, IsEntry, is_unpinned, is_pinned, pinned_count}
 use Rattle.tile_store.specs.Changes.{pinned_first, unpinned_once, with_first, with_room, kept_within}
 use Rattle.tile_store.specs.Changes.{without_last_unpinned, without_stale, is_stale, one_less, inserted}
 use Rattle.tile_store.specs.Changes.{new_entry}

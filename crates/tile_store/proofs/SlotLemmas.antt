@@ -8,7 +8,7 @@ use Rattle.std.proofs.lemmas.Bool.{eqb-true, eqb-false, ne_eqb}
 use Rattle.std.proofs.lemmas.Bool.{cases_eq, cases_lt, false≢true}
 use Rattle.std.proofs.lemmas.Grind.{get_or-set_at}
 use Rattle.std.proofs.lemmas.List.{length-set, get_or-set_other, get_or_default, get_or_past}
-use Rattle.tile_store.specs.Entry.{EntryState, Entries, entry_at}
+use Rattle.tile_store.specs.CachedTile.{EntryState, Entries, entry_at}
 use Rattle.tile_store.specs.Links.{Linked, linked, is_in, without}
 use Rattle.tile_store.specs.Order.{entry_in, in_front, entries_of, IsOrder}
 use Rattle.tile_store.specs.Keys.{slot_of, key_in, AreApart}

@@ -5,7 +5,7 @@ use Rattle.std.proofs.Common.{refl, sym, ap, ◌∙◌, subst, ⊎_elim, arith}
 use Rattle.std.specs.List.{IsDistinct}
 use Rattle.std.proofs.lemmas.Bool.{false≢true}
 use Rattle.std.proofs.lemmas.List.{get_or-replicate, length-replicate, drop_all}
-use Rattle.tile_store.specs.Entry.{EntryState}
+use Rattle.tile_store.specs.CachedTile.{EntryState}
 use Rattle.tile_store.specs.Links.{Linked, linked, is_in}
 use Rattle.tile_store.specs.Keys.{slot_of, AreApart}
 use Rattle.tile_store.specs.Order.{below, IsOrder, IsOrdered}

@@ -7,7 +7,7 @@ use Rattle.std.specs.List.{filter}
 use Rattle.std.specs.Option.{option_map_or}
 use Rattle.tile_layout.specs.Key.{generation_of, file_of}
 use Rattle.tile_store.specs.Tile.{CachedTile}
-use Rattle.tile_store.specs.Entry.{EntryState, Entries, unpinned_bytes, is_unpinned, is_pinned, pinned_entries, entry_at}
+use Rattle.tile_store.specs.CachedTile.{EntryState, Entries, unpinned_bytes, is_unpinned, is_pinned, pinned_entries, entry_at}
 use Rattle.tile_store.specs.Changes.{pinned_first, with_first, with_room, with_pin, inserted, new_entry}
 use Rattle.tile_store.specs.Changes.{kept_within, without_last_unpinned, without_stale, KeepsPinned}
 use Rattle.tile_store.proofs.WithinLemmas.{filter_without, unpinned_has}

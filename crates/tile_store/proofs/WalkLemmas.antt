@@ -6,7 +6,7 @@ use Rattle.std.specs.List.{list_any}
 use Rattle.std.proofs.lemmas.Bool.{or_from}
 use Rattle.std.proofs.lemmas.Bool.{cases_lt}
 use Rattle.tile_store.specs.Tile.{tile_bytes}
-use Rattle.tile_store.specs.Entry.{EntryState, is_unpinned}
+use Rattle.tile_store.specs.CachedTile.{EntryState, is_unpinned}
 use Rattle.tile_store.specs.Links.{is_in, last_of}
 use Rattle.tile_store.specs.Order.{entry_in, in_front, entries_of}
 use Rattle.tile_store.specs.Leaving.{IsLastUnpinned}

@@ -7,7 +7,7 @@ use Rattle.std.proofs.lemmas.Bool.{eqb-true, leb-true, leb-false, le-leb, lt-leb
 use Rattle.std.proofs.lemmas.List.Elements.{All-cons, All-head, All-tail, All-filter}
 use Rattle.std.proofs.lemmas.List.Sums.{sum_by-cons}
 use Rattle.tile_store.specs.Tile.{tile_bytes}
-use Rattle.tile_store.specs.Entry.{EntryState, Entries, unpinned_bytes, pin_sum, loose_bytes, is_unpinned, is_pinned}
+use Rattle.tile_store.specs.CachedTile.{EntryState, Entries, unpinned_bytes, pin_sum, loose_bytes, is_unpinned, is_pinned}
 use Rattle.tile_store.specs.Changes.{without_last_unpinned, kept_within}
 use Rattle.tile_store.proofs.EvictLemmas.{loose-all_pinned, or_false}
 

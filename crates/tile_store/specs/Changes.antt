@@ -6,8 +6,8 @@ use Rattle.std.specs.Option.{option_map_or}
 use Rattle.std.specs.Map.{remove_entry, set_value}
 use Rattle.tile_layout.specs.Key.{generation_of, file_of}
 use Rattle.tile_store.specs.Tile.{CachedTile}
-use Rattle.tile_store.specs.Entry.{EntryState, Entries, is_unpinned, is_pinned, pinned_entries}
-use Rattle.tile_store.specs.Entry.{unpinned_bytes, entry_at}
+use Rattle.tile_store.specs.CachedTile.{EntryState, Entries, is_unpinned, is_pinned, pinned_entries}
+use Rattle.tile_store.specs.CachedTile.{unpinned_bytes, entry_at}
 
 -- the entry with one more pin
 abbrev pub one_more : EntryState → EntryState

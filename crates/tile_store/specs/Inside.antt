@@ -2,7 +2,7 @@
 use Rattle.std.specs.Prelude.{◌≡◌, ℕ, ◌+◌, ◌<◌, ◌^◌, Bool, List, length, IfSome}
 use Rattle.std.specs.List.{All}
 use Rattle.tile_store.specs.Marks.{HasMark}
-use Rattle.tile_store.specs.Entry.{Entries, IsEntry, entry_at, pin_sum, loose_bytes}
+use Rattle.tile_store.specs.CachedTile.{Entries, IsEntry, entry_at, pin_sum, loose_bytes}
 
 -- the entry of the key can have one more pin
 abbrev pub CanPin : ℕ → Entries → Type 0

@@ -9,7 +9,7 @@ use Rattle.tile_layout.specs.Level.{level_count}
 use Rattle.tile_layout.specs.Cell.{cut_level_of, cell_count, cell_rect}
 use Rattle.tile_store.specs.Tile.{CachedTile}
 use Rattle.tile_store.specs.Told.{ToldBy, IsOfBytes}
-use Rattle.tile_store.specs.Entry.{Entries, loose_bytes}
+use Rattle.tile_store.specs.CachedTile.{Entries, loose_bytes}
 use Rattle.tile_store.specs.Tag.{share_in_tag, cut_of}
 
 -- The key of the tile names a cell of a file with these bytes under this cut, and the tile has the

@@ -5,7 +5,7 @@ use Rattle.std.specs.List.{list_any}
 use Rattle.std.specs.Option.{option_map_or}
 use Rattle.std.specs.Map.{lookup_entry, remove_entry}
 use Rattle.tile_store.specs.Tile.{tile_bytes}
-use Rattle.tile_store.specs.Entry.{EntryState, Entries, is_unpinned}
+use Rattle.tile_store.specs.CachedTile.{EntryState, Entries, is_unpinned}
 use Rattle.tile_store.specs.Changes.{is_stale}
 use Rattle.tile_store.specs.Links.{last_of}
 

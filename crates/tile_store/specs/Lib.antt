@@ -1,9 +1,9 @@
-pub mod Row
+pub mod SampleRow
 pub mod Texels
 pub mod Tile
 pub mod Told
 pub mod Kept
-pub mod Entry
+pub mod CachedTile
 pub mod Marks
 pub mod Inside
 pub mod Links

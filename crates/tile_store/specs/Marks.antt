@@ -2,7 +2,7 @@
 use Rattle.std.specs.Prelude.{◌≡◌, ℕ, ◌==◌, ◌^◌, Bool, true, false, List, length}
 use Rattle.std.specs.Prelude.{slice_index_or, slice_set}
 use Rattle.tile_layout.specs.Key.{file_bits, file_of}
-use Rattle.tile_store.specs.Entry.{EntryState}
+use Rattle.tile_store.specs.CachedTile.{EntryState}
 
 -- there is a mark for each file that a key can name
 abbrev pub AreMarks : List Bool → Type 0

@@ -4,7 +4,7 @@ use Rattle.std.specs.Prelude.{List, [], ◌∷◌, ◌++◌, length}
 use Rattle.std.specs.Prelude.{Option, Some, None, slice_index_or, IsSomeAnd}
 use Rattle.std.specs.Option.{option_map_or}
 use Rattle.std.specs.List.{IsDistinct}
-use Rattle.tile_store.specs.Entry.{EntryState, Entries}
+use Rattle.tile_store.specs.CachedTile.{EntryState, Entries}
 use Rattle.tile_store.specs.Links.{Linked, is_in}
 use Rattle.tile_store.specs.Keys.{slot_of, AreApart}
 use Rattle.tile_store.specs.Slots.{ShardState, SameSlots, LosesKey}

@@ -3,7 +3,7 @@ use Rattle.std.specs.Prelude.{◌≡◌, ℕ, true, false, nat_eq, List, [], ◌
 use Rattle.std.specs.Prelude.{Option, Some, None, IsSome}
 use Rattle.std.specs.List.{IsDistinct}
 use Rattle.std.specs.Option.{option_map_or}
-use Rattle.tile_store.specs.Entry.{Entries, entry_at}
+use Rattle.tile_store.specs.CachedTile.{Entries, entry_at}
 use Rattle.tile_store.specs.Links.{is_in}
 use Rattle.tile_store.specs.Keys.{key_in, slot_of, keyed_at, without_key, AreApart}
 

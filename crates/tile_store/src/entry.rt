@@ -2,7 +2,7 @@
 ghost use Rattle.std.specs.Prelude.{◌≡◌, ◌+◌, ◌≤◌, ◌<◌, ◌^◌, ◌==◌, ◌↔◌, IsTrue, IfOk};
 ghost use Rattle.std.specs.Arc.{arc_value};
 ghost use Rattle.tile_layout.specs.Cell.{max_cell_bytes};
-ghost use Rattle.tile_store.specs.Entry.{unpinned_bytes};
+ghost use Rattle.tile_store.specs.CachedTile.{unpinned_bytes};
 ghost use Rattle.tile_store.specs.Changes.{one_more, one_less, new_entry, is_stale};
 
 use crate::tile::Tile;
@@ -14,26 +14,26 @@ use tile_layout::TileKey;
 
 /// A tile of a shard, and its number of pins.
 #[derive(Drop)]
-pub struct Entry<W: World> {
+pub struct CachedTile<W: World> {
     tile: Arc<Tile<W>>,
     pins: u32,
 }
 
-impl<W: World> Model for Entry<W> {
+impl<W: World> Model for CachedTile<W> {
     ghost use Rattle.std.specs.Arc.{arc_value};
-    ghost use Rattle.tile_store.specs.Entry.{EntryState};
+    ghost use Rattle.tile_store.specs.CachedTile.{EntryState};
 
     ghost Value = { EntryState };
 
     ghost view = { λ e. record { tile = arc_value e.tile; pins = e.pins } };
 }
 
-impl<W: World> Entry<W> {
+impl<W: World> CachedTile<W> {
     /// An entry with one pin.
-    pub(crate) fn pinned(tile: Arc<Tile<W>>) -> Entry<W>
+    pub(crate) fn pinned(tile: Arc<Tile<W>>) -> CachedTile<W>
         ensures { result ≡ new_entry (arc_value tile) }
     {
-        Entry { tile, pins: 1 }
+        CachedTile { tile, pins: 1 }
     }
 
     /// A reference to the tile, for a pin.

@@ -1,7 +1,7 @@
 //! Evicts unpinned entries, the least recently used first.
 ghost use Rattle.std.specs.Prelude.{◌≡◌, ◌+◌, ◌<◌, ◌≤◌, length, IsTrue};
 ghost use Rattle.std.specs.List.{list_any};
-ghost use Rattle.tile_store.specs.Entry.{is_unpinned, pinned_count, loose_bytes};
+ghost use Rattle.tile_store.specs.CachedTile.{is_unpinned, pinned_count, loose_bytes};
 ghost use Rattle.tile_store.specs.Changes.{without_last_unpinned, with_room, kept_within};
 ghost use Rattle.tile_store.specs.Slots.{EmptiesSlots};
 ghost use Rattle.tile_store.specs.Order.{Evicts, MakesRoom};

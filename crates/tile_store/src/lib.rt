@@ -17,7 +17,7 @@ mod two_rows;
 
 // clauses can name a shard only if the types of its fields are exported
 #[doc(hidden)]
-pub use entry::Entry;
+pub use entry::CachedTile;
 #[doc(hidden)]
 pub use keys::Keys;
 #[doc(hidden)]
@@ -26,7 +26,7 @@ pub use links::Links;
 pub use marks::Marks;
 #[doc(hidden)]
 pub use order::Order;
-pub use row::Row;
+pub use row::SampleRow;
 pub use shard::Shard;
 #[doc(hidden)]
 pub use texels::Texels;

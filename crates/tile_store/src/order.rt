@@ -8,7 +8,7 @@ ghost use Rattle.tile_layout.specs.Key.{file_of};
 ghost use Rattle.tile_store.specs.Marks.{IsOfOther};
 ghost use Rattle.std.specs.Vec.{vec_capacity};
 ghost use Rattle.tile_store.specs.Tile.{tile_bytes};
-ghost use Rattle.tile_store.specs.Entry.{entry_at, unpinned_at, is_unpinned, HasPin};
+ghost use Rattle.tile_store.specs.CachedTile.{entry_at, unpinned_at, is_unpinned, HasPin};
 ghost use Rattle.tile_store.specs.Changes.{pinned_first, unpinned_once};
 ghost use Rattle.tile_store.specs.Inside.{CanPin};
 ghost use Rattle.tile_store.specs.Links.{last_of};
@@ -17,7 +17,7 @@ ghost use Rattle.tile_store.specs.Slots.{empty_shard, AreInSlots, SameSlots, Los
 ghost use Rattle.tile_store.specs.Order.{below};
 ghost use Rattle.tile_store.specs.Leaving.{last_entry, promoted, IsLastUnpinned};
 
-use crate::entry::Entry;
+use crate::entry::CachedTile;
 use crate::keys::{Keys, none_yet};
 use crate::links::Links;
 use std::alloc::Global;
@@ -29,7 +29,7 @@ use tile_layout::TileKey;
 /// key of each slot, and the slots that were emptied and not yet reported.
 #[derive(Drop)]
 pub struct Order<W: World> {
-    slots: Vec<Option<Entry<W>>>,
+    slots: Vec<Option<CachedTile<W>>>,
     // The slots without an entry. The first `told` of them have been reported.
     free: Vec<u32>,
     told: usize,
@@ -107,7 +107,7 @@ impl<W: World> Order<W> {
     }
 
     /// The entry of a key.
-    pub(crate) fn peek(&self, key: TileKey) -> Option<&Entry<W>>
+    pub(crate) fn peek(&self, key: TileKey) -> Option<&CachedTile<W>>
         ensures { option_copied result ≡ entry_at key self.now.entries }
     {
         match self.keys.find(key) {
@@ -171,7 +171,7 @@ impl<W: World> Order<W> {
 
     /// Adds an entry at the front, in the slot that was emptied last. All free slots then count as
     /// reported. Returns the slot.
-    pub(crate) fn put(&mut self, entry: Entry<W>) -> u32
+    pub(crate) fn put(&mut self, entry: CachedTile<W>) -> u32
         requires absent { entry_at entry.tile.key self.old.entries ≡ None }
         requires free { length self.old.entries < length self.old.slots }
         ensures entries { self.new.entries ≡ (entry.tile.key, entry) ∷ self.old.entries }
@@ -217,7 +217,7 @@ impl<W: World> Order<W> {
     }
 
     /// The last entry.
-    pub(crate) fn last(&self) -> Option<&Entry<W>>
+    pub(crate) fn last(&self) -> Option<&CachedTile<W>>
         ensures { option_map (λ e. (e.now.tile.key, e.now)) result ≡ last_entry self.now.entries }
     {
         match self.links.last() {
@@ -254,7 +254,7 @@ pub(crate) struct Last {
 }
 
 impl Last {
-    fn of<W: World>(entry: &Entry<W>) -> Last
+    fn of<W: World>(entry: &CachedTile<W>) -> Last
         requires { entry.now.pins ≡ 0 }
         ensures key { result.key ≡ entry.now.tile.key }
         ensures bytes { result.bytes ≡ tile_bytes entry.now.tile }
@@ -267,7 +267,7 @@ impl Last {
 }
 
 /// Whether a slot has an entry of this file.
-fn is_of<W: World>(slot: &Option<Entry<W>>, file: u32) -> bool
+fn is_of<W: World>(slot: &Option<CachedTile<W>>, file: u32) -> bool
     ensures { IsFalse result → IfSome slot.now (λ e. (file_of e.tile.key == file) ≡ false) }
 {
     match slot {

@@ -1,6 +1,6 @@
 //! Purges entries of replaced generations.
 ghost use Rattle.std.specs.Prelude.{◌≡◌, ◌+◌, ◌<◌, ◌^◌, length};
-ghost use Rattle.tile_store.specs.Entry.{loose_bytes};
+ghost use Rattle.tile_store.specs.CachedTile.{loose_bytes};
 ghost use Rattle.tile_store.specs.Changes.{without_stale};
 ghost use Rattle.tile_store.specs.Leaving.{turned};
 ghost use Rattle.tile_store.specs.Slots.{EmptiesSlots};

@@ -1,11 +1,11 @@
 //! Samples of a tile that lie side by side.
 
 ghost use Rattle.std.specs.Prelude.{◌≡◌, ℕ, ◌+◌, ◌<◌, ◌≤◌, length, take, drop, slice_index};
-ghost use Rattle.tile_store.specs.Row.{samples_of};
+ghost use Rattle.tile_store.specs.SampleRow.{samples_of};
 
 /// Samples side by side, of one or two bytes each.
 #[derive(Clone, Copy, Debug)]
-pub enum Row<'a> {
+pub enum SampleRow<'a> {
     Bytes(&'a [u8]),
     Shorts(&'a [u16]),
 }
@@ -31,15 +31,15 @@ fn widen(bytes: &[u8], out: &mut [u16])
     }
 }
 
-impl<'a> Row<'a> {
+impl<'a> SampleRow<'a> {
     /// The number of samples.
     #[inline(always)]
     pub fn count(&self) -> usize
         ensures { result ≡ length (samples_of self.now) }
     {
         match self {
-            Row::Bytes(samples) => samples.len(),
-            Row::Shorts(samples) => samples.len(),
+            SampleRow::Bytes(samples) => samples.len(),
+            SampleRow::Shorts(samples) => samples.len(),
         }
     }
 
@@ -48,8 +48,8 @@ impl<'a> Row<'a> {
     #[inline(always)]
     pub fn has_bytes(&self) -> bool {
         match self {
-            Row::Bytes(_) => true,
-            Row::Shorts(_) => false,
+            SampleRow::Bytes(_) => true,
+            SampleRow::Shorts(_) => false,
         }
     }
 
@@ -60,20 +60,20 @@ impl<'a> Row<'a> {
         ensures { result ≡ slice_index (samples_of self.now) at }
     {
         match self {
-            Row::Bytes(samples) => u16::from(samples[at]),
-            Row::Shorts(samples) => short_at(samples, at),
+            SampleRow::Bytes(samples) => u16::from(samples[at]),
+            SampleRow::Shorts(samples) => short_at(samples, at),
         }
     }
 
     /// The `count` samples from a place on.
     #[inline(always)]
-    pub fn part(&self, from: usize, count: usize) -> Row<'a>
+    pub fn part(&self, from: usize, count: usize) -> SampleRow<'a>
         requires { from + count ≤ length (samples_of self.now) }
         ensures { samples_of result ≡ take count (drop from (samples_of self.now)) }
     {
         match self {
-            Row::Bytes(samples) => Row::Bytes(&samples[from..from + count]),
-            Row::Shorts(samples) => Row::Shorts(&samples[from..from + count]),
+            SampleRow::Bytes(samples) => SampleRow::Bytes(&samples[from..from + count]),
+            SampleRow::Shorts(samples) => SampleRow::Shorts(&samples[from..from + count]),
         }
     }
 
@@ -83,8 +83,8 @@ impl<'a> Row<'a> {
         ensures { out.new ≡ samples_of self.now }
     {
         match self {
-            Row::Bytes(samples) => widen(samples, out),
-            Row::Shorts(samples) => out.copy_from_slice(samples),
+            SampleRow::Bytes(samples) => widen(samples, out),
+            SampleRow::Shorts(samples) => out.copy_from_slice(samples),
         }
     }
 }

@@ -2,8 +2,8 @@
 ghost use Rattle.std.specs.Prelude.{◌≡◌, ℕ, ◌+◌, ◌<◌, ◌≤◌, ◌^◌, [], length, option_map, None};
 ghost use Rattle.std.specs.Prelude.{OnOk, OnErr, IfOk, IfSome, IsTrue, ◌↔◌};
 ghost use Rattle.std.specs.Arc.{arc_value};
-ghost use Rattle.tile_store.specs.Entry.{entry_at, tile_at, HasPin, pin_sum, loose_bytes};
-ghost use Rattle.tile_store.specs.Entry.{pinned_count, AreEntries};
+ghost use Rattle.tile_store.specs.CachedTile.{entry_at, tile_at, HasPin, pin_sum, loose_bytes};
+ghost use Rattle.tile_store.specs.CachedTile.{pinned_count, AreEntries};
 ghost use Rattle.tile_store.specs.Changes.{pinned_first, inserted, unpinned_once};
 ghost use Rattle.tile_store.specs.Changes.{kept_within, without_stale, with_pin, KeepsPinned, IsKept};
 ghost use Rattle.tile_store.specs.Keys.{slot_of};
@@ -12,7 +12,7 @@ ghost use Rattle.tile_store.specs.Slots.{FillsSlot, EmptiesSlots, TellsSlot};
 ghost use Rattle.tile_store.specs.Tag.{share_in_tag};
 ghost use Rattle.tile_store.specs.Lawful.{FitsTag, Lawful, KeepsLawful, KeepsLawfulFor};
 
-use crate::entry::{Entry, another, owned};
+use crate::entry::{CachedTile, another, owned};
 use crate::evict::{evict_past, make_room};
 use crate::marks::Marks;
 use crate::order::Order;
@@ -130,7 +130,7 @@ impl<W: World> Shard<W> {
         // needed by the proof: bounds the bytes of the tile
         let key = tile.key();
         let kept = owned(self.alloc, tile)?;
-        let entry = Entry::pinned(another(&kept)?);
+        let entry = CachedTile::pinned(another(&kept)?);
         self.loose -= make_room(&mut self.order);
         let _ = self.order.put(entry);
         self.marks.mark(key);

@@ -1,10 +1,10 @@
 //! The samples of a tile.
 
 ghost use Rattle.std.specs.Prelude.{◌≡◌, ◌+◌, ◌≤◌, length, take, drop};
-ghost use Rattle.tile_store.specs.Row.{samples_of, top_of, bottom_of};
+ghost use Rattle.tile_store.specs.SampleRow.{samples_of, top_of, bottom_of};
 ghost use Rattle.tile_store.specs.Texels.{kept_in};
 
-use crate::row::Row;
+use crate::row::SampleRow;
 use crate::two_rows::TwoRows;
 
 /// The samples of texels, row by row, all samples of a texel together: one byte each for an 8-bit
@@ -18,12 +18,12 @@ pub enum Texels {
 impl Texels {
     /// All samples.
     #[inline(always)]
-    pub(crate) fn all(&self) -> Row<'_>
+    pub(crate) fn all(&self) -> SampleRow<'_>
         ensures { samples_of result ≡ kept_in self.now }
     {
         match self {
-            Texels::Bytes(samples) => Row::Bytes(samples),
-            Texels::Shorts(samples) => Row::Shorts(samples),
+            Texels::Bytes(samples) => SampleRow::Bytes(samples),
+            Texels::Shorts(samples) => SampleRow::Shorts(samples),
         }
     }
 

@@ -3,10 +3,10 @@ ghost use Rattle.std.specs.Prelude.{◌≡◌, ◌≤◌, ◌<◌};
 ghost use Rattle.tile_layout.specs.Cell.{HoldsTexel, max_cell_bytes};
 ghost use Rattle.tile_store.specs.Tile.{cached_tile, tile_bytes, IsTile, place_in, kept_sample};
 ghost use Rattle.tile_store.specs.Tile.{HoldsRow, AreSamples};
-ghost use Rattle.tile_store.specs.Row.{samples_of, top_of, bottom_of};
+ghost use Rattle.tile_store.specs.SampleRow.{samples_of, top_of, bottom_of};
 ghost use Rattle.tile_store.specs.Told.{IsTold, IsToldSample, AreToldSamples};
 
-use crate::row::Row;
+use crate::row::SampleRow;
 use crate::texels::Texels;
 use crate::two_rows::TwoRows;
 use std::marker::{Model, PhantomData};
@@ -119,7 +119,7 @@ impl<W: World> Tile<W> {
 
     /// The samples of n texels of the level, side by side from (x, y) on.
     #[inline(always)]
-    pub fn row(&self, x: u32, y: u32, n: u32) -> Row<'_>
+    pub fn row(&self, x: u32, y: u32, n: u32) -> SampleRow<'_>
         requires { HoldsRow self.now x y n }
         ensures value { AreSamples self.now x y n (samples_of result) }
         ensures told { AreToldSamples W.files self.now x y n (samples_of result) }

@@ -1,9 +1,9 @@
 //! Samples of two rows of a tile.
 
 ghost use Rattle.std.specs.Prelude.{◌≡◌};
-ghost use Rattle.tile_store.specs.Row.{samples_of, top_of, bottom_of};
+ghost use Rattle.tile_store.specs.SampleRow.{samples_of, top_of, bottom_of};
 
-use crate::row::Row;
+use crate::row::SampleRow;
 
 /// The samples of two rows of a tile in the same columns, of one or two bytes each.
 #[derive(Clone, Copy, Debug)]
@@ -25,23 +25,23 @@ impl<'a> TwoRows<'a> {
 
     /// The samples of the upper row.
     #[inline(always)]
-    pub fn top(&self) -> Row<'a>
+    pub fn top(&self) -> SampleRow<'a>
         ensures { samples_of result ≡ top_of self.now }
     {
         match self {
-            TwoRows::Bytes(top, _) => Row::Bytes(top),
-            TwoRows::Shorts(top, _) => Row::Shorts(top),
+            TwoRows::Bytes(top, _) => SampleRow::Bytes(top),
+            TwoRows::Shorts(top, _) => SampleRow::Shorts(top),
         }
     }
 
     /// The samples of the lower row.
     #[inline(always)]
-    pub fn bottom(&self) -> Row<'a>
+    pub fn bottom(&self) -> SampleRow<'a>
         ensures { samples_of result ≡ bottom_of self.now }
     {
         match self {
-            TwoRows::Bytes(_, bottom) => Row::Bytes(bottom),
-            TwoRows::Shorts(_, bottom) => Row::Shorts(bottom),
+            TwoRows::Bytes(_, bottom) => SampleRow::Bytes(bottom),
+            TwoRows::Shorts(_, bottom) => SampleRow::Shorts(bottom),
         }
     }
 }

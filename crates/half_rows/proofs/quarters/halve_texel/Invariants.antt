@@ -1,5 +1,5 @@
 use Rattle.std.proofs.Common.{◌≡◌, ℕ, ◌+◌, ◌*◌, ◌<◌, length, slice_index}
-use Rattle.tile_store.specs.Row.{top_of, bottom_of}
+use Rattle.tile_store.specs.SampleRow.{top_of, bottom_of}
 use Rattle.half_rows.specs.Quarters.{row_sample, row_average}
 use Rattle.half_rows.proofs.quarters.halve_texel.Given as goal
 

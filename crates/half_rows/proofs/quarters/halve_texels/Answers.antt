@@ -1,7 +1,7 @@
 use Rattle.std.proofs.Common.{◌≡◌, ℕ, ◌+◌, ◌*◌, ◌<◌, ◌∙◌, subst, arith, inl, inr}
 use Rattle.std.proofs.lemmas.Bool.{cases_lt}
 use Rattle.std.proofs.lemmas.Nat.{mul-add-lt}
-use Rattle.tile_store.specs.Row.{top_of, bottom_of}
+use Rattle.tile_store.specs.SampleRow.{top_of, bottom_of}
 use Rattle.half_rows.specs.Quarters.{row_sample, row_average}
 use Rattle.half_rows.proofs.quarters.halve_texels.Goals as goal
 

@@ -7,7 +7,7 @@ use Rattle.tile_layout.specs.Cell.{cell_rect}
 use Rattle.file_table.specs.Record.{RecordState}
 use Rattle.texel_values.specs.declared.area.Area.{Area}
 use Rattle.texel_values.specs.Area.{area_cell}
-use Rattle.texel_values.specs.Window.{HasValuesOn}
+use Rattle.texel_values.specs.RegionShape.{HasValuesOn}
 use Rattle.texel_values.proofs.AreaLemmas.{painted_all}
 use Rattle.texel_values.proofs.PlaceLemmas.{less_or_not}
 use Rattle.tile_source.specs.Call.{Needs}

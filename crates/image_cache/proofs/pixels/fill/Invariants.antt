@@ -4,7 +4,7 @@ use Rattle.std.specs.Option.{ForSome}
 use Rattle.tile_layout.specs.Grid.{shown_grid}
 use Rattle.tile_layout.specs.Cell.{cell_rect}
 use Rattle.texel_values.specs.Area.{IsZeroBeside, area_cell}
-use Rattle.texel_values.specs.Window.{HasValuesOn}
+use Rattle.texel_values.specs.RegionShape.{HasValuesOn}
 use Rattle.tile_source.specs.Call.{Needs}
 use Rattle.image_cache.specs.Region.{area_keys}
 use Rattle.tile_source.specs.Source.{Reads}

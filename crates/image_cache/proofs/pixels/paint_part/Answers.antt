@@ -2,7 +2,7 @@
 use Rattle.std.proofs.Common.{ℕ, List, subst}
 use Rattle.tiff_format.specs.declared.rect.Rect.{Rect}
 use Rattle.tile_layout.specs.Key.{level_of}
-use Rattle.texel_values.specs.Window.{HasValuesOn}
+use Rattle.texel_values.specs.RegionShape.{HasValuesOn}
 use Rattle.tile_source.proofs.TexelLemmas.{told_by_record, level_of_cell}
 use Rattle.tile_source.proofs.NeedLemmas.{rect_like}
 use Rattle.image_cache.proofs.pixels.paint_part.Goals as goal

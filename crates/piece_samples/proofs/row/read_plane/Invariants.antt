@@ -3,7 +3,7 @@ use Rattle.std.proofs.Common.{◌≡◌, ◌≢◌, ◌+◌, ◌-◌, ◌*◌, �
 use Rattle.tile_layout.specs.Pieces.{row_texels}
 use Rattle.tile_layout.specs.Plane.{plane_in}
 use Rattle.piece_samples.specs.Beyond.{IsPlaneBeyond}
-use Rattle.piece_samples.specs.Row.{IsReadSample, row_rect}
+use Rattle.piece_samples.specs.TexelRow.{IsReadSample, row_rect}
 use Rattle.piece_samples.specs.Unpacked.{KeepsDepth}
 use Rattle.piece_samples.proofs.row.read_plane.Given as goal
 

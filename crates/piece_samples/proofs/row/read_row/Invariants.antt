@@ -6,7 +6,7 @@ use Rattle.tile_layout.specs.Kept.{level_in}
 use Rattle.tile_layout.specs.Plane.{plane_in}
 use Rattle.tile_layout.specs.Texel.{FitDepth}
 use Rattle.piece_samples.specs.Beyond.{IsAllBeyond}
-use Rattle.piece_samples.specs.Row.{IsReadSample, row_rect}
+use Rattle.piece_samples.specs.TexelRow.{IsReadSample, row_rect}
 use Rattle.piece_samples.proofs.row.read_row.Given as goal
 
 abbrev pub invariant-each : goal.invariant-each

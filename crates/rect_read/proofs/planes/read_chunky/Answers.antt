@@ -5,8 +5,8 @@ use Rattle.std.proofs.lemmas.List.Elements.{All-nil}
 use Rattle.tiff_format.specs.Texel.{greatest_sample}
 use Rattle.tile_layout.specs.Texel.{AreTexelsOn, FitDepth}
 use Rattle.rect_read.specs.Taken.{taken}
-use Rattle.rect_read.specs.Texels.{samples_of, are_wide}
-use Rattle.rect_read.specs.declared.texels.Texels.{Texels}
+use Rattle.rect_read.specs.RectSamples.{samples_of, are_wide}
+use Rattle.rect_read.specs.declared.texels.RectSamples.{RectSamples}
 use Rattle.rect_read.specs.Zeros.{AreZerosBeyond}
 use Rattle.rect_read.proofs.TakenSamples.{taken_alone}
 use Rattle.rect_read.proofs.planes.read_chunky.Goals as goal
@@ -24,7 +24,7 @@ read_plane-requires-clause-fits g c =
 pub returns-clause-wide : goal.returns-clause-wide
 returns-clause-wide g c =
     c.in_ok-all.ensures.others.wide
-    ∙ ap (λ (t : Texels). are_wide t) c.of_texels-samples.ensures.same
+    ∙ ap (λ (t : RectSamples). are_wide t) c.of_texels-samples.ensures.same
 
 pub returns-clause-low : goal.returns-clause-low
 returns-clause-low g c =

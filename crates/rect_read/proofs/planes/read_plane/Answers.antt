@@ -3,7 +3,7 @@ use Rattle.tiff_format.specs.Texel.{sample_in}
 use Rattle.tile_layout.specs.Plane.{plane_in}
 use Rattle.rect_read.specs.declared.samples.Samples.{Samples}
 use Rattle.rect_read.specs.Taken.{taken}
-use Rattle.rect_read.specs.Texels.{samples_of}
+use Rattle.rect_read.specs.RectSamples.{samples_of}
 use Rattle.rect_read.proofs.RectValues.{are_texels}
 use Rattle.rect_read.proofs.TakenSamples.{keeps_after, fits_after}
 use Rattle.rect_read.proofs.planes.read_plane.Goals as goal

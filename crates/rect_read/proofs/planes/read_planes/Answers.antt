@@ -11,8 +11,8 @@ use Rattle.tile_layout.proofs.PlaneBlocks.{plane_held}
 use Rattle.rect_read.specs.declared.samples.Samples.{Samples}
 use Rattle.piece_samples.specs.Beyond.{IsBeyond}
 use Rattle.rect_read.specs.Taken.{taken}
-use Rattle.rect_read.specs.Texels.{samples_of, are_wide}
-use Rattle.rect_read.specs.declared.texels.Texels.{Texels}
+use Rattle.rect_read.specs.RectSamples.{samples_of, are_wide}
+use Rattle.rect_read.specs.declared.texels.RectSamples.{RectSamples}
 use Rattle.rect_read.proofs.Leaves.{leaves_after}
 use Rattle.piece_samples.proofs.LowSamples.{all_low}
 use Rattle.rect_read.proofs.PlanarSamples.{one_aside, one_each, planar_texels, white_low}
@@ -40,7 +40,7 @@ read_plane-requires-clause-fits g c =
     let level = plane_level (level_in place.layout.now place.level) c.each.plane in
     let samples : Samples = c.of_plane-samples.result in
     let wide : are_wide samples.values ≡ true =
-    ap (λ (t : Texels). are_wide t) c.of_plane-samples.ensures.same in
+    ap (λ (t : RectSamples). are_wide t) c.of_plane-samples.ensures.same in
     record {
       texels = λ narrow. let wide = wide in cc;
       places = λ several. rw c.format-format.ensures.value.invert
@@ -52,7 +52,7 @@ read_plane-requires-clause-fits g c =
 pub into_shorts-values-requires : goal.into_shorts-values-requires
 into_shorts-values-requires g c =
     c.in_ok-own.ensures.others.wide
-    ∙ ap (λ (t : Texels). are_wide t) c.of_plane-samples.ensures.same
+    ∙ ap (λ (t : RectSamples). are_wide t) c.of_plane-samples.ensures.same
 
 pub each-preserved : goal.each-preserved
 each-preserved g c =
@@ -71,7 +71,7 @@ each-preserved g c =
     let step : samples.places.step ≡ c.planes-planes.result = c.of_plane-samples.ensures.step in
     let first : samples.places.first ≡ p = c.of_plane-samples.ensures.first in
     let items : samples_of samples.values ≡ c.each.values.items =
-    ap (λ (t : Texels). samples_of t) c.of_plane-samples.ensures.same in
+    ap (λ (t : RectSamples). samples_of t) c.of_plane-samples.ensures.same in
     let new = c.into_shorts-values.result.items in
     let held : new ≡ samples_of after.values = c.into_shorts-values.ensures in
     let keeps = read.others in

@@ -1,7 +1,7 @@
 use Rattle.std.proofs.Common.{◌≡◌, ◌<◌, arith}
 use Rattle.tile_layout.specs.Kept.{level_in}
 use Rattle.tile_layout.proofs.PlaneBlocks.{plane_held}
-use Rattle.rect_read.specs.Texels.{samples_of}
+use Rattle.rect_read.specs.RectSamples.{samples_of}
 use Rattle.rect_read.proofs.PlanarSamples.{alone_texels}
 use Rattle.rect_read.proofs.rect.read_rect.Goals as goal
 

@@ -4,7 +4,7 @@ use Rattle.std.proofs.lemmas.List.{length-append}
 use Rattle.std.proofs.lemmas.List.FromFn.{length-map-range_with_len}
 use Rattle.tiff_format.specs.Block.{sample_bytes}
 use Rattle.rect_read.specs.Taken.{taken}
-use Rattle.rect_read.specs.Texels.{samples_of, are_wide}
+use Rattle.rect_read.specs.RectSamples.{samples_of, are_wide}
 use Rattle.rect_read.proofs.ByteSamples.{run_bytes, unit_of_bytes, on_three}
 use Rattle.rect_read.proofs.SampleValues.{span_samples}
 use Rattle.rect_read.proofs.TakenSamples.{taken_alone, one_of_bytes}

@@ -4,7 +4,7 @@ use Rattle.tiff_format.specs.Block.{Level}
 use Rattle.tile_layout.specs.FormatOf.{IsFormatOf}
 use Rattle.rect_read.specs.Run.{AppendsValues, StandSideBySide}
 use Rattle.rect_read.specs.Taken.{taken, KeepsOthers}
-use Rattle.rect_read.specs.Texels.{samples_of}
+use Rattle.rect_read.specs.RectSamples.{samples_of}
 use Rattle.piece_samples.specs.Unpacked.{KeepsDepth}
 use Rattle.rect_read.specs.Window.{IsWindow}
 use Rattle.rect_read.proofs.run.read_run.Given as goal

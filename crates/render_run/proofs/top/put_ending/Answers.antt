@@ -1,4 +1,4 @@
-use Rattle.render_run.specs.Ending.{ending_text}
+use Rattle.render_run.specs.RunError.{ending_text}
 use Rattle.render_run.proofs.top.put_ending.Goals as goal
 
 pub returns-in-BadWords : goal.returns-in-BadWords

@@ -1,7 +1,7 @@
 use Rattle.std.proofs.Common.{rules}
 use Rattle.render_run.specs.Around.{Around, feed_state, around_of}
 use Rattle.answer_page.specs.Page.{sink_state}
-use Rattle.render_run.specs.Ending.{asked_by}
+use Rattle.render_run.specs.RunError.{asked_by}
 use Rattle.render_run.specs.Run.{Runs}
 use Rattle.render_run.proofs.Completing.{completes}
 use Rattle.render_run.proofs.Endings.{ended_runs}

@@ -1,7 +1,7 @@
 use Rattle.std.proofs.Common.{◌≡◌, ℕ, ℤ, ap, ◌∙◌, refl, arith, to_z, of_z, w32}
 use Rattle.std.proofs.lemmas.Int.{ints}
 use Rattle.sample_run.specs.Draw.{next_state, drawn}
-use Rattle.sample_run.specs.Lookup as spec
+use Rattle.sample_run.specs.SampleLookup as spec
 use Rattle.sample_run.proofs.lookup.next_lookup.Goals as goal
 
 -- a coordinate fits its type

@@ -1,7 +1,7 @@
 -- The tile that is found is that of the key, and its slot has one pin more.
 use Rattle.std.proofs.Common.{◌≡◌, Some, ap, sym, ◌∙◌, option_map}
 use Rattle.std.specs.Arc.{arc_value}
-use Rattle.tile_store.specs.Entry.{entry_at, tile_at}
+use Rattle.tile_store.specs.CachedTile.{entry_at, tile_at}
 use Rattle.tile_store.specs.Keys.{slot_of}
 use Rattle.tile_store.specs.Tag.{cut_of}
 use Rattle.tile_store.proofs.PinLemmas.{entry_from_tile}

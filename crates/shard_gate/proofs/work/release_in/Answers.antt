@@ -1,6 +1,6 @@
 -- The slot has one pin less, and only unpinned tiles were removed.
 use Rattle.std.proofs.Common.{◌≤◌}
-use Rattle.tile_store.specs.Entry.{EntryState, entry_at}
+use Rattle.tile_store.specs.CachedTile.{EntryState, entry_at}
 use Rattle.tile_store.proofs.PinLemmas.{some_entry}
 use Rattle.shard_gate.proofs.LeaveLemmas.{behind_release}
 use Rattle.shard_gate.proofs.work.release_in.Goals as goal

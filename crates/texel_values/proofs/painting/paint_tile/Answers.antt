@@ -2,19 +2,19 @@
 use Rattle.std.proofs.Common.{◌≡◌, ◌∙◌, ℕ, ◌+◌, ◌-◌, ◌*◌, ◌<◌, ◌≤◌, ◌⊎◌, inl, inr, ap, sym, subst, arith, max, min}
 use Rattle.std.proofs.Common.{slice_index, length}
 use Rattle.std.proofs.lemmas.Nat.{mul-add-lt}
-use Rattle.texel_values.specs.Window.{column_of, row_of}
+use Rattle.texel_values.specs.RegionShape.{column_of, row_of}
 use Rattle.texel_values.specs.Values.{kept_value}
-use Rattle.tile_store.specs.Row.{samples_of}
+use Rattle.tile_store.specs.SampleRow.{samples_of}
 use Rattle.tile_store.specs.Tile.{kept_sample}
 use Rattle.texel_values.proofs.PlaceLemmas.{IsRow, elsewhere, place_is, ends_within}
 use Rattle.texel_values.proofs.PlaceLemmas.{place_at, from_place, first_i, less_or_not}
 use Rattle.tiff_format.specs.declared.rect.Rect.{Rect}
-use Rattle.texel_values.specs.declared.window.Window.{Window}
+use Rattle.texel_values.specs.declared.window.RegionShape.{RegionShape}
 use Rattle.texel_values.proofs.painting.paint_tile.Goals as goal
 
 pub overflow_add-start-in-loop-y : goal.overflow_add-start-in-loop-y
 overflow_add-start-in-loop-y g c =
-    let window : Window = c.args.window.now in
+    let window : RegionShape = c.args.window.now in
     let rect : Rect = c.args.tile.now.rect in
     let rect_is : c.rect-rect.result ≡ rect = c.rect-rect.ensures.value in
     let left = c.max-left.result in
@@ -41,7 +41,7 @@ overflow_add-start-in-loop-y g c =
 
 pub paint_row-requires : goal.paint_row-requires
 paint_row-requires g c =
-    let window : Window = c.args.window.now in
+    let window : RegionShape = c.args.window.now in
     let rect : Rect = c.args.tile.now.rect in
     let rect_is : c.rect-rect.result ≡ rect = c.rect-rect.ensures.value in
     let left = c.max-left.result in
@@ -71,7 +71,7 @@ paint_row-requires g c =
 
 pub loop-y-preserved : goal.loop-y-preserved
 loop-y-preserved g c =
-    let window : Window = c.args.window.now in
+    let window : RegionShape = c.args.window.now in
     let rect : Rect = c.args.tile.now.rect in
     let rect_is : c.rect-rect.result ≡ rect = c.rect-rect.ensures.value in
     let left = c.max-left.result in

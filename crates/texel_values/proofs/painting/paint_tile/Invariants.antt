@@ -3,7 +3,7 @@ use Rattle.std.proofs.Common.{◌≡◌, ℕ, ◌<◌, length}
 use Rattle.tile_store.specs.Tile.{kept_sample}
 use Rattle.texel_values.specs.Values.{kept_value}
 use Rattle.texel_values.specs.Region.{value_at}
-use Rattle.texel_values.specs.Window.{IsIn, column_of, row_of}
+use Rattle.texel_values.specs.RegionShape.{IsIn, column_of, row_of}
 use Rattle.texel_values.proofs.painting.paint_tile.Given as goal
 
 abbrev pub invariant-loop-y : goal.invariant-loop-y

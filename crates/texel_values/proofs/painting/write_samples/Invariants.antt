@@ -1,6 +1,6 @@
 -- The values so far are at their places.
 use Rattle.std.proofs.Common.{◌≡◌, ℕ, ◌<◌, length, slice_index}
-use Rattle.tile_store.specs.Row.{samples_of}
+use Rattle.tile_store.specs.SampleRow.{samples_of}
 use Rattle.texel_values.specs.Values.{kept_value}
 use Rattle.texel_values.proofs.painting.write_samples.Given as goal
 

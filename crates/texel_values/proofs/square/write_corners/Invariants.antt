@@ -1,6 +1,6 @@
 -- The channels so far are in the four corners.
 use Rattle.std.proofs.Common.{◌≡◌}
-use Rattle.tile_store.specs.Row.{samples_of, top_of, bottom_of}
+use Rattle.tile_store.specs.SampleRow.{samples_of, top_of, bottom_of}
 use Rattle.texel_values.specs.Square.{AreCornersOf}
 use Rattle.texel_values.proofs.square.write_corners.Given as goal
 

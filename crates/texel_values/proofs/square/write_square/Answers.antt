@@ -3,7 +3,7 @@ use Rattle.std.proofs.Common.{ℕ, ◌+◌, ◌-◌, ◌==◌, ◌<◌, ◌≤�
 use Rattle.tiff_format.specs.declared.rect.Rect.{Rect}
 use Rattle.tile_layout.specs.Key.{generation_of, file_of}
 use Rattle.tile_layout.specs.Cell.{HoldsTexel}
-use Rattle.tile_store.specs.Row.{top_of, bottom_of}
+use Rattle.tile_store.specs.SampleRow.{top_of, bottom_of}
 use Rattle.texel_values.proofs.SquareLemmas.{some_four, told_first, texel_samples}
 use Rattle.texel_values.proofs.square.write_square.Goals as goal
 

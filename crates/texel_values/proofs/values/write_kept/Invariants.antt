@@ -1,6 +1,6 @@
 -- The values of the channels so far are at their places.
 use Rattle.std.proofs.Common.{◌≡◌, ℕ, ◌<◌, length, slice_index}
-use Rattle.tile_store.specs.Row.{samples_of}
+use Rattle.tile_store.specs.SampleRow.{samples_of}
 use Rattle.texel_values.specs.Values.{sample_value}
 use Rattle.texel_values.proofs.values.write_kept.Given as goal
 

@@ -1,5 +1,5 @@
 -- The values are those of the samples of the texel's row.
-use Rattle.tile_store.specs.Row.{samples_of}
+use Rattle.tile_store.specs.SampleRow.{samples_of}
 use Rattle.texel_values.proofs.ValueLemmas.{values_of_samples, told_values}
 use Rattle.texel_values.proofs.values.write_values.Goals as goal
 

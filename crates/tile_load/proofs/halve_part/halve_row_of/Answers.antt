@@ -1,6 +1,6 @@
 use Rattle.std.proofs.Common.{ℕ, ◌+◌, ◌*◌, ◌∙◌, subst, arith}
 use Rattle.tile_layout.specs.Texel.{clamped}
-use Rattle.tile_store.specs.Row.{top_of, bottom_of}
+use Rattle.tile_store.specs.SampleRow.{top_of, bottom_of}
 use Rattle.tile_store.specs.Tile.{AreSamples}
 use Rattle.tile_load.proofs.PartRows.{row_kept, row_quarter, row_written}
 use Rattle.tile_load.proofs.halve_part.halve_row_of.Goals as goal

@@ -4,7 +4,7 @@ use Rattle.tile_layout.specs.Key.{level_of, index_of}
 use Rattle.tile_layout.specs.Cell.{rect_bytes, cell_rect, cut_level_in, channels_in}
 use Rattle.tile_layout.specs.Cell.{max_cell_bytes}
 use Rattle.tile_layout.specs.Kept.{stored_count}
-use Rattle.rect_read.specs.Texels.{samples_of}
+use Rattle.rect_read.specs.RectSamples.{samples_of}
 use Rattle.tile_load.proofs.ToldTiles.{tile_told}
 use Rattle.tile_load.proofs.loading.load_at.Goals as goal
 

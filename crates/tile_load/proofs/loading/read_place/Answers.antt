@@ -4,7 +4,7 @@ use Rattle.tile_layout.specs.Blocks.{HoldsBlocks}
 use Rattle.tile_layout.specs.Kept.{Kept, kept_of, stored_count, level_in}
 use Rattle.tile_layout.specs.Texel.{texel_at}
 use Rattle.tile_layout.proofs.StoredTexels.{texel_stored, holds_level}
-use Rattle.rect_read.specs.Texels.{samples_of}
+use Rattle.rect_read.specs.RectSamples.{samples_of}
 use Rattle.rect_read.proofs.RectValues.{same_texels}
 use Rattle.tile_load.proofs.loading.read_place.Goals as goal
 

@@ -1,5 +1,5 @@
 use Rattle.std.proofs.Common.{◌<◌, refl, ap, sym, ◌∙◌, arith}
-use Rattle.tile_store.specs.Entry.{loose_bytes}
+use Rattle.tile_store.specs.CachedTile.{loose_bytes}
 use Rattle.tile_store.specs.Changes.{kept_within}
 use Rattle.tile_store.proofs.EvictLemmas.{any_unpinned, length-without_last}
 use Rattle.tile_store.proofs.WithinLemmas.{kept_within-all, kept_within-without_last}

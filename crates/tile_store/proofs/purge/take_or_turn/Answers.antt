@@ -1,7 +1,7 @@
 use Rattle.std.proofs.Common.{◌≡◌, ◌∙◌, nat_eq, ap, sym, arith}
 use Rattle.std.specs.Map.{remove_entry}
 use Rattle.tile_store.specs.Leaving.{promoted}
-use Rattle.tile_store.specs.Entry.{loose_bytes}
+use Rattle.tile_store.specs.CachedTile.{loose_bytes}
 use Rattle.tile_store.proofs.PurgeLemmas.{last_turns, turned-last}
 use Rattle.tile_store.proofs.LeftLemmas.{same_empties, lost_empties}
 use Rattle.tile_store.proofs.purge.take_or_turn.Goals as goal

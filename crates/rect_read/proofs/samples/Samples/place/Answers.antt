@@ -2,7 +2,7 @@ use Rattle.std.proofs.Common.{◌≡◌, ℕ, ◌+◌, ◌*◌, ◌++◌, List, 
 use Rattle.std.proofs.Math.Seq.{take-append_seam}
 use Rattle.rect_read.specs.Taken.{taken_by}
 use Rattle.piece_samples.specs.Unpacked.{unpacked}
-use Rattle.rect_read.specs.Texels.{samples_of}
+use Rattle.rect_read.specs.RectSamples.{samples_of}
 use Rattle.rect_read.proofs.TakenSamples.{taken_more}
 use Rattle.rect_read.proofs.samples.Samples.place.Goals as goal
 

@@ -3,7 +3,7 @@ use Rattle.std.proofs.Common.{◌∙◌, arith}
 use Rattle.std.proofs.lemmas.List.{get_or-set_other, get_or-set_same, length-set}
 use Rattle.piece_samples.proofs.PlaneWrites.{same_place, place_within}
 use Rattle.rect_read.proofs.TakenSamples.{taken_zero, keeps_more}
-use Rattle.rect_read.specs.Texels.{samples_of}
+use Rattle.rect_read.specs.RectSamples.{samples_of}
 use Rattle.std.proofs.lemmas.List.Elements.{All-set}
 use Rattle.tiff_format.specs.Texel.{greatest_sample}
 use Rattle.rect_read.proofs.samples.Samples.place_zero.Goals as goal

@@ -1,7 +1,7 @@
 use Rattle.std.proofs.Common.{ℕ, List, ◌++◌, map, ap, sym, ◌∙◌}
 use Rattle.std.specs.List.{range_with_len}
 use Rattle.piece_samples.specs.Unpacked.{unpacked}
-use Rattle.rect_read.specs.Texels.{samples_of}
+use Rattle.rect_read.specs.RectSamples.{samples_of}
 use Rattle.rect_read.proofs.TakenSamples.{taken_alone}
 use Rattle.rect_read.proofs.WholeRows.{on_ok}
 use Rattle.rect_read.proofs.samples.Samples.push.Goals as goal

@@ -1,5 +1,5 @@
 use Rattle.std.proofs.Common.{ℕ, List, ◌++◌, replicate, ap, sym, ◌∙◌}
-use Rattle.rect_read.specs.Texels.{samples_of}
+use Rattle.rect_read.specs.RectSamples.{samples_of}
 use Rattle.rect_read.proofs.TakenSamples.{taken_alone}
 use Rattle.rect_read.proofs.WholeRows.{on_ok}
 use Rattle.rect_read.proofs.samples.Samples.push_zeros.Goals as goal

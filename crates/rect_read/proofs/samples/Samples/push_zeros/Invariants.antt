@@ -1,7 +1,7 @@
 use Rattle.std.proofs.Common.{◌≡◌, ℕ, ◌++◌, replicate}
 use Rattle.tile_layout.specs.Texel.{FitDepth}
 use Rattle.rect_read.specs.Taken.{taken, KeepsOthers}
-use Rattle.rect_read.specs.Texels.{samples_of}
+use Rattle.rect_read.specs.RectSamples.{samples_of}
 use Rattle.rect_read.proofs.samples.Samples.push_zeros.Given as goal
 
 -- this many zeros follow the samples already taken

@@ -1,7 +1,7 @@
 -- The first look is kept by `supply_look`, and the others behind it.
 use Rattle.std.proofs.Common.{Option, List, ◌∙◌, ◌++◌, ap, subst}
 use Rattle.std.specs.Prelude.{IsSomeAnd}
-use Rattle.supplied_tap.specs.declared.supply.Look.{Look}
+use Rattle.supplied_tap.specs.declared.supply.FileVersion.{FileVersion}
 use Rattle.supplied_tap.specs.declared.supply.Seen.{Seen}
 use Rattle.supplied_tap.specs.SuppliedTap.{IsLookOf}
 use Rattle.supplied_tap.proofs.tap.SuppliedTap.supply_looks.Goals as goal
@@ -13,7 +13,7 @@ returns-clause-ok c =
       look = taken.look;
       more = c.keep_looks.ensures.more;
       added = c.keep_looks.ensures.added
-          ∙ ap (λ (l : List Look). l ++ c.keep_looks.ensures.more) taken.added;
+          ∙ ap (λ (l : List FileVersion). l ++ c.keep_looks.ensures.more) taken.added;
       first = subst (λ (o : Option Seen). IsSomeAnd o (IsLookOf taken.look)) c.in-Some.ensures.value
           (taken.of_file, taken.of_generation, taken.long);
       need = taken.need;

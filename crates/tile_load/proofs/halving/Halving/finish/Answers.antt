@@ -1,7 +1,7 @@
 use Rattle.std.proofs.Common.{◌≡◌, ℕ, ◌*◌, length, refl, sym, ap, ◌∙◌, subst}
 use Rattle.tiff_format.specs.declared.rect.Rect.{Rect}
 use Rattle.tile_layout.specs.Cell.{channels_in}
-use Rattle.rect_read.specs.Texels.{samples_of}
+use Rattle.rect_read.specs.RectSamples.{samples_of}
 use Rattle.tile_store.specs.Tile.{cached_tile}
 use Rattle.tile_store.specs.Told.{ToldBy, IsTold}
 use Rattle.tile_load.specs.CellTile.{IsCellTile}

@@ -8,7 +8,7 @@ use Rattle.tile_layout.specs.Level.{width_in}
 use Rattle.tile_layout.specs.Plane.{plane_level}
 use Rattle.tile_layout.specs.Texel.{FitDepth}
 use Rattle.piece_samples.specs.Beyond.{IsBeyond}
-use Rattle.tile_slots.specs.Part.{AreTexelOf, part_right}
+use Rattle.tile_slots.specs.RowPart.{AreTexelOf, part_right}
 use Rattle.tile_slots.proofs.PartTexels.{some_told, is_column, texel_told, texel_zero, low_told}
 use Rattle.tile_slots.proofs.slots.Slots.fill.Goals as goal
 

@@ -1,6 +1,6 @@
 use Rattle.std.proofs.Common.{None, ap, sym, ◌∙◌, arith}
 use Rattle.std.proofs.lemmas.List.{get_or_default}
-use Rattle.tile_store.specs.Entry.{entry_at}
+use Rattle.tile_store.specs.CachedTile.{entry_at}
 use Rattle.tile_store.proofs.OrderLemmas.{entry_by_some, entry_by_none}
 use Rattle.tile_store.proofs.SlotLemmas.{found_low}
 use Rattle.tile_store.proofs.order.Order.peek.Goals as goal

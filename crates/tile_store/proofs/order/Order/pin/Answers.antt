@@ -2,7 +2,7 @@ use Rattle.std.proofs.Common.{◌+◌, ◌<◌, ◌^◌, ◌∷◌, Some, IfSome
 use Rattle.std.specs.Map.{remove_entry}
 use Rattle.std.specs.Option.{option_map_or}
 use Rattle.std.specs.Vec.{vec_capacity}
-use Rattle.tile_store.specs.Entry.{entry_at, unpinned_bytes}
+use Rattle.tile_store.specs.CachedTile.{entry_at, unpinned_bytes}
 use Rattle.tile_store.specs.Order.{entries_of, IsOrder}
 use Rattle.tile_store.proofs.PinLemmas.{pinned_first-found}
 use Rattle.tile_store.proofs.OrderLemmas.{entry_by_none}

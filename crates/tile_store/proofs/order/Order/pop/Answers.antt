@@ -5,7 +5,7 @@ use Rattle.tile_store.proofs.LeftLemmas.{told_end, length-without_key}
 use Rattle.std.proofs.Common.{[], ◌∷◌, ◌++◌, length-append, drop, ◌≡◌, None, nat_eq, length, set, ap, sym, subst, ◌∙◌, arith}
 use Rattle.std.specs.Map.{remove_entry}
 use Rattle.std.specs.Vec.{vec_len, vec_capacity}
-use Rattle.tile_store.specs.Entry.{entry_at}
+use Rattle.tile_store.specs.CachedTile.{entry_at}
 use Rattle.tile_store.specs.Links.{linked, without}
 use Rattle.tile_store.specs.Order.{entries_of, IsOrder, IsOrdered}
 use Rattle.tile_store.proofs.MapLemmas.{remove_entry-none}

@@ -2,7 +2,7 @@ use Rattle.std.proofs.Common.{◌∷◌, nat_eq, ap, sym, subst, ◌∙◌}
 use Rattle.std.specs.Map.{remove_entry}
 use Rattle.std.specs.Option.{option_map_or}
 use Rattle.std.specs.Vec.{vec_capacity}
-use Rattle.tile_store.specs.Entry.{entry_at}
+use Rattle.tile_store.specs.CachedTile.{entry_at}
 use Rattle.tile_store.specs.Leaving.{promoted}
 use Rattle.tile_store.specs.Order.{entries_of, IsOrder}
 use Rattle.tile_store.proofs.MapLemmas.{lookup_entry-none}

@@ -1,7 +1,7 @@
 use Rattle.std.proofs.Common.{◌≡◌, ◌<◌, ◌∷◌, true, Some, IfSome, length, set, ap, sym, subst, ◌∙◌, arith}
 use Rattle.std.specs.Vec.{vec_len, vec_capacity}
 use Rattle.std.proofs.lemmas.List.{length-set}
-use Rattle.tile_store.specs.Entry.{entry_at}
+use Rattle.tile_store.specs.CachedTile.{entry_at}
 use Rattle.tile_store.specs.Links.{linked, is_in, last_of}
 use Rattle.tile_store.specs.Order.{entries_of, IsOrder}
 use Rattle.tile_store.proofs.OrderLemmas.{length-entries}

@@ -1,6 +1,6 @@
 use Rattle.std.proofs.Common.{◌≡◌, IsSomeAnd, nat_eq, ◌≤◌, ap, sym, subst, refl, ◌∙◌, arith}
 use Rattle.std.specs.Map.{set_value}
-use Rattle.tile_store.specs.Entry.{entry_at, unpinned_at, unpinned_bytes}
+use Rattle.tile_store.specs.CachedTile.{entry_at, unpinned_at, unpinned_bytes}
 use Rattle.tile_store.specs.Changes.{unpinned_once, one_less}
 use Rattle.tile_store.proofs.PinLemmas.{unpinned_at-unpinned_once}
 use Rattle.tile_store.proofs.OrderLemmas.{entry_by_none}

@@ -1,7 +1,7 @@
 use Rattle.std.proofs.Common.{◌≡◌, ◌∙◌, nat_eq, ap, sym, subst, arith}
 use Rattle.std.specs.List.{IsDistinct}
 use Rattle.std.specs.Map.{keys_of}
-use Rattle.tile_store.specs.Entry.{loose_bytes, IsEntry}
+use Rattle.tile_store.specs.CachedTile.{loose_bytes, IsEntry}
 use Rattle.tile_store.specs.Inside.{CanPin}
 use Rattle.tile_store.specs.Lawful.{Lawful}
 use Rattle.tile_store.proofs.PinLemmas.{can_pin, All-found}

@@ -1,7 +1,7 @@
 use Rattle.std.proofs.Common.{Some, length, ◌^◌, arith, ◌≡◌, ◌+◌, ◌-◌, ◌<◌, ◌∷◌, ◌∙◌, nat_eq, ap, sym, subst}
 use Rattle.std.specs.List.{IsDistinct}
 use Rattle.std.specs.Map.{keys_of}
-use Rattle.tile_store.specs.Entry.{entry_at, loose_bytes, pinned_count, pinned_entries}
+use Rattle.tile_store.specs.CachedTile.{entry_at, loose_bytes, pinned_count, pinned_entries}
 use Rattle.tile_store.specs.Changes.{new_entry, with_first, with_room}
 use Rattle.tile_store.specs.Lawful.{Lawful}
 use Rattle.tile_store.proofs.ShardLemmas.{shard_inserted, inserted-new, absent_with_room}

@@ -1,5 +1,5 @@
 use Rattle.std.proofs.Common.{◌≡◌, ◌≤◌, ap, subst}
-use Rattle.tile_store.specs.Entry.{pin_sum, pinned_count}
+use Rattle.tile_store.specs.CachedTile.{pin_sum, pinned_count}
 use Rattle.tile_store.proofs.ShardLemmas.{pinned_count-le}
 use Rattle.tile_store.proofs.shard.Shard.pins.Goals as goal
 

@@ -1,7 +1,7 @@
 use Rattle.std.proofs.Common.{◌∙◌, ◌-◌, nat_eq, ap, sym, subst}
 use Rattle.std.specs.List.{IsDistinct}
 use Rattle.std.specs.Map.{keys_of}
-use Rattle.tile_store.specs.Entry.{pinned_entries}
+use Rattle.tile_store.specs.CachedTile.{pinned_entries}
 use Rattle.tile_store.specs.Inside.{IsShard}
 use Rattle.tile_store.specs.Lawful.{Lawful}
 use Rattle.tile_store.proofs.ShardLemmas.{shard_purged}

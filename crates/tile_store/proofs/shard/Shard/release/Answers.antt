@@ -1,7 +1,7 @@
 use Rattle.std.proofs.Common.{◌≡◌, ◌+◌, ◌-◌, ◌<◌, ◌≤◌, ◌^◌, ◌∙◌, nat_eq, ap, sym, subst, arith}
 use Rattle.std.specs.List.{IsDistinct}
 use Rattle.std.specs.Map.{keys_of}
-use Rattle.tile_store.specs.Entry.{entry_at, unpinned_at, HasPin, pin_sum, loose_bytes, pinned_entries}
+use Rattle.tile_store.specs.CachedTile.{entry_at, unpinned_at, HasPin, pin_sum, loose_bytes, pinned_entries}
 use Rattle.tile_store.specs.Changes.{kept_within, unpinned_once}
 use Rattle.tile_store.specs.Lawful.{Lawful}
 use Rattle.tile_store.proofs.PinLemmas.{some_entry, pins-le}

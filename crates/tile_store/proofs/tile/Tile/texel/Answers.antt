@@ -1,5 +1,5 @@
 use Rattle.std.proofs.Common.{◌≡◌, ◌+◌, ℕ, List, slice_index, ap, subst, ◌∙◌}
-use Rattle.tile_store.specs.Row.{samples_of}
+use Rattle.tile_store.specs.SampleRow.{samples_of}
 use Rattle.tile_store.specs.Tile.{IsTile}
 use Rattle.tile_store.specs.Told.{IsTold}
 use Rattle.tile_store.proofs.TileLemmas.{told_sample, sample_within}
