@@ -1,8 +1,7 @@
 """Tests the library tex_c, and the C, C++ and Python that use it.
 
 The demo's list and the stored run of texcache are answered by 1 and by 8 threads. Each answer must be the line of
-expected.txt or of the run's stdout; C++ and Python leave requests for UDIM textures out.
-Each thread needs the same cells as the program's worker. Then come wrong calls, passes, threads and forks, open files,
+expected.txt or of the run's stdout. Each thread needs the same cells as the program's worker. Then come wrong calls, passes, threads and forks, open files,
 lookups on doubles, their options and the types of results, errors in words, statistics, and files that are replaced
 while they are read. All also run under valgrind and with the compiler's sanitizers, of addresses, of undefined
 behaviour and of threads, which then see the C part too. `tools/check fine` tests which values lookups on doubles have.
