@@ -105,16 +105,17 @@ def renderer(words, folder):
     with tempfile.TemporaryDirectory() as made:
         folder = folder or Path(made) / "textures"
         if not (folder / "t63.tif").is_file():
-            output_of([sys.executable, RENDERER / "textures.py", folder])
-        size = sum(it.stat().st_size for it in folder.iterdir())
+            output_of([sys.executable, RENDERER / "textures.py", "many", folder])
+        textures = list(folder.glob("*.tif"))
+        size = sum(it.stat().st_size for it in textures)
         last, linked = over(words.library)
         program = Path(made) / "renderer"
         output_of(["cc", "-std=gnu11", "-O2", f"-I{TOP / 'include'}", "-o", program, RENDERER / "renderer.c", *linked, *last])
-        print(f"{len(list(folder.iterdir()))} textures of {size} bytes")
+        print(f"{len(textures)} textures of {size} bytes")
         for more in ([], ["--closest"]):
             began = time.monotonic()
-            said = output_of([program, folder, Path(made) / "out.ppm", "--many", "--budget", 1 << 24, "--width", 1920, "--height",
-                         1200, *more])
+            said = output_of([program, folder / "many.scene", Path(made) / "out.ppm", "--threads", 8, "--budget", 1 << 24, "--width",
+                              1920, "--height", 1200, *more])
             print(f"1920 by 1200, 8 threads, budget 16 MB {' '.join(more)}: {time.monotonic() - began:.2f} s,", said.strip(),
                   flush=True)
 

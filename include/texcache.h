@@ -180,8 +180,9 @@ int texcache_find_all(texcache *cache, const char *folder, uint32_t *count);
 
 /* A name with the mark <UDIM>, as wall.<UDIM>.tif, means a set of files, one for each unit square of s and t: the tile at
  * s and t has the number 1001 + u + 10 * v, where u and v are the whole parts of s and t, rounded down. u is 0 to 9, and
- * the number at most 9999. The set has a number too, from 2^31 on, which all lookups take. Each lookup is made in the
- * file of its tile, at the rest of s and t. A tile without a file is TEXCACHE_NO_TILE. A cache has at most 1024 sets. */
+ * the number at most 9999. OpenImageIO's other marks, as <UVTILE>, count too: docs/OPTIONS.md, "UDIM sets". The set has a
+ * number, from 2^31 on, which all lookups take. Each lookup is made in the file of its tile, at the rest of s and t. A
+ * tile without a file is TEXCACHE_NO_TILE. A cache has at most 1024 sets. */
 
 /* Whether this is the number of a set. */
 bool texcache_is_udim(const texcache *cache, uint32_t file);

@@ -16,6 +16,7 @@
 #endif
 
 #include <sys/stat.h>
+#include <unistd.h>
 
 #include <algorithm>
 #include <atomic>
@@ -281,16 +282,14 @@ struct Facts {
     ImageSpec spec;
 };
 
-// A folder with its cache. Threads that get no pass of their own share one, one call at a time.
-struct Folder {
-    std::string path;
-    std::size_t index = 0;
-    texcache *cache = nullptr;
+// The cache of all files. Threads that get no pass of their own share one, one call at a time.
+struct Cache {
+    texcache *cache = nullptr;   // NULL until the first file is opened
     texcache_pass *common = nullptr;
     std::mutex lock;
 };
 
-// A thread's access to a folder. The lock is that of a shared pass, or NULL.
+// A thread's access to the cache. The lock is that of a shared pass, or NULL.
 struct Access {
     texcache_pass *pass = nullptr;
     std::mutex *lock = nullptr;
@@ -307,13 +306,6 @@ struct Levels {
     double blend = 0;
 };
 
-// Why the thread's latest failed call failed, with the whole path: the library knows the name alone.
-inline std::string latest(const std::string &path)
-{
-    std::string text = texcache_last_error(), name = path.substr(path.rfind('/') + 1);
-    return text.compare(0, name.size(), name) ? path + ": " + text : path + text.substr(name.size());
-}
-
 // Where the values of a lookup go, and the derivatives that are wanted or NULL. One value is `step` from the next.
 struct Result {
     float *values, *ds, *dt;
@@ -329,33 +321,36 @@ struct Sampling {
     bool is_blended = false;     // the nearest texels of two levels
 };
 
-// A folder's part and a name's part of a path.
-inline std::pair<std::string, std::string> split(const std::string &path)
-{
-    std::size_t slash = path.rfind('/');
-    if (slash == std::string::npos) return {".", path};
-    return {slash ? path.substr(0, slash) : "/", path.substr(slash + 1)};
-}
-
 inline bool is_file(const std::string &path)
 {
     struct stat found;
     return !stat(path.c_str(), &found) && S_ISREG(found.st_mode);
 }
 
-inline bool has_udim(string_view name)
+// The path from the root on. A program may change its working directory while the cache is open.
+inline std::string absolute(const std::string &path)
 {
-    for (const char *mark : {"<UDIM>", "<U>", "<V>", "<u>", "<v>", "<UVTILE>", "%(UDIM)d"})
+    char working[4096];
+    if (path.empty() || path[0] == '/' || !getcwd(working, sizeof working)) return path;
+    return std::string(working) + "/" + path;
+}
+
+// Whether a name may be that of a UDIM set: it has one of OpenImageIO's marks.
+inline bool has_mark(string_view name)
+{
+    for (const char *mark : {"<UDIM>", "%(UDIM)d", "<u>", "<v>", "<U>", "<V>", "<uvtile>", "<UVTILE>", "_u##v##"})
         if (name.find(mark) != string_view::npos) return true;
     return false;
 }
 
-// The name of a tile, empty if the pattern has no mark.
-inline ustring tile_name(const std::string &pattern, std::uint32_t tile)
+constexpr std::uint32_t no_file = ~std::uint32_t(0);
+constexpr std::uint32_t first_tile = 1001, last_tile = 9999;
+
+// The tile at s and t by OpenImageIO's rule, which has the first ones for what is below 0; or 0 if there can be none.
+inline std::uint32_t tile_at(double s, double t)
 {
-    const std::string mark = "<UDIM>";
-    std::size_t at = pattern.find(mark);
-    return at == std::string::npos ? ustring() : ustring(pattern.substr(0, at) + std::to_string(tile) + pattern.substr(at + mark.size()));
+    const double u = s > 0 ? std::floor(s) : 0, v = t > 0 ? std::floor(t) : 0, tile = first_tile + u + 10 * v;
+    return u <= 9 && tile <= last_tile ? std::uint32_t(tile) : 0;
 }
 
 // The levels whose texels have this width, in parts of the image: OpenImageIO's rule.
@@ -431,22 +426,22 @@ inline double bounded(double by) { return by < -16000 ? -16000 : by > 16000 ? 16
 
 class TextureSystem {
 public:
-    // A file, found or not.
+    // A file or a UDIM set, found or not.
     class TextureHandle {
         friend class TextureSystem;
         ustring name_;
         std::string path_;
         std::once_flag is_opened_;
-        detail::Folder *folder_ = nullptr;                      // NULL if the folder has no such file
-        std::uint32_t file_ = 0;
-        std::atomic<const detail::Facts *> facts_{nullptr};   // NULL if the file cannot be read
+        std::uint32_t file_ = detail::no_file;                  // its number in the cache, if it was found
+        std::atomic<const detail::Facts *> facts_{nullptr};   // NULL if the file cannot be read; a set has those of a tile
+        std::unique_ptr<std::atomic<TextureHandle *>[]> tiles_; // of a set: the tiles that were looked up
         std::string error_;                                     // why not; the system's lock guards it
     };
 
     // What a thread has of the system. No two threads may use it at once.
     class Perthread {
         friend class TextureSystem;
-        std::vector<detail::Access> accesses_;
+        detail::Access access_;
         std::unordered_map<const char *, TextureHandle *> names_;
         unsigned resolved_ = 0;   // which search path the names are of
         texcache_texture_options how_ = detail::usual;
@@ -516,22 +511,11 @@ public:
 
     ustring filename_from_handle(TextureHandle *handle) { return handle ? handle->name_ : ustring(); }
 
+    // The path of a file: as it is if there is such a file, or else in the first folder of the search path that has it.
     std::string resolve_filename(const std::string &filename) const
     {
-        if (!filename.empty() && filename[0] == '/') return filename;
-        std::string path;
-        {
-            std::lock_guard<std::mutex> guard(state_->lock);
-            path = state_->searchpath;
-        }
-        for (std::size_t at = 0; at <= path.size() && !path.empty();) {
-            std::size_t end = std::min(path.find_first_of(":;", at), path.size());
-            std::string tried = path.substr(at, end - at);
-            at = end + 1;
-            if (tried.empty()) continue;
-            tried += (tried.back() == '/' ? "" : "/") + filename;
-            if (detail::is_file(tried)) return tried;
-        }
+        for (const std::string &it : paths_of(filename))
+            if (detail::is_file(it)) return it;
         return filename;
     }
 
@@ -555,11 +539,11 @@ public:
         Perthread *own = thread_info ? thread_info : get_perthread_info();
         const detail::Facts *facts = texture_handle->facts_.load(std::memory_order_acquire);
         detail::Place place = {s, t, dsdx, dtdx, dsdy, dtdy};
-        if (!facts) return in_tile(texture_handle, own, options, place, to);
+        if (!facts || texture_handle->tiles_) return in_tile(texture_handle, own, options, place, to);
         bool is_at_place = options.mipmode == TextureOpt::MipModeNoMIP
                            || (is_point(place) && options.sblur == 0 && options.tblur == 0);
         if (is_at_place && !dresultds && !dresultdt && is_quick(*texture_handle, own, *facts, options, s, t, to)) return true;
-        return look_up(*texture_handle, access(own, *texture_handle->folder_), facts, options, place, to);
+        return look_up(*texture_handle, access(own), facts, options, place, to);
     }
 
     // A batch: result has all values of channel 0, then those of channel 1, and so on, BatchWidth of each.
@@ -580,7 +564,7 @@ public:
         Perthread *own = thread_info ? thread_info : get_perthread_info();
         const char *why = refused(first);
         const detail::Facts *facts = texture_handle ? texture_handle->facts_.load(std::memory_order_acquire) : nullptr;
-        bool is_plain = !why && facts && nchannels > 0 && nchannels <= 8 && result && !dresultds && !dresultdt;
+        bool is_plain = !why && facts && !texture_handle->tiles_ && nchannels > 0 && nchannels <= 8 && result && !dresultds && !dresultdt;
         if (is_plain && together(*texture_handle, own, facts, options, first, mask, {s, t, dsdx, dtdx, dsdy, dtdy}, nchannels,
                                  result))
             return true;
@@ -597,8 +581,8 @@ public:
             }
             facts = texture_handle->facts_.load(std::memory_order_acquire);
             detail::Place place = {s[i], t[i], dsdx[i], dtdx[i], dsdy[i], dtdy[i]};
-            if (!facts) is_good &= in_tile(texture_handle, own, one, place, to);
-            else is_good &= look_up(*texture_handle, access(own, *texture_handle->folder_), facts, one, place, to);
+            if (!facts || texture_handle->tiles_) is_good &= in_tile(texture_handle, own, one, place, to);
+            else is_good &= look_up(*texture_handle, access(own), facts, one, place, to);
         }
         return is_good;
     }
@@ -618,7 +602,7 @@ public:
         if (!data) return says("get_texture_info: data is NULL");
         if (dataname == "exists" && datatype == TypeInt) return put_ints(data, {facts ? 1 : 0});
         if (dataname == "udim" && datatype == TypeInt)
-            return put_ints(data, {texture_handle && detail::has_udim(texture_handle->name_) ? 1 : 0});
+            return put_ints(data, {is_udim(texture_handle) ? 1 : 0});
         if (!facts) return says(why_not(texture_handle));
         if (subimage) return says(name_of(texture_handle) + ": a file has one subimage, number 0");
         const texcache_info &i = facts->info;
@@ -696,47 +680,56 @@ public:
                     void *result)
     {
         if (!texture_handle || !texture_handle->facts_.load()) return says(why_not(texture_handle));
+        if (texture_handle->tiles_) return says(name_of(texture_handle) + ": get_texels reads a tile; resolve_udim gives it");
         if (miplevel < 0 || xend < xbegin || yend < ybegin || chbegin < 0 || chend < chbegin || zbegin || zend != 1
             || options.subimage || !result)
             return says(name_of(texture_handle) + ": get_texels: a range is not one of an image");
         if (format != TypeUInt8 && format != TypeUInt16 && format != TypeFloat)
             return says(name_of(texture_handle) + ": get_texels gives uint8, uint16 and float, and no " + format.c_str());
-        return texels(*texture_handle, access(get_perthread_info(thread_info), *texture_handle->folder_),
+        return texels(*texture_handle, access(get_perthread_info(thread_info)),
                       {std::uint32_t(miplevel), xbegin, ybegin, std::uint32_t(xend - xbegin), std::uint32_t(yend - ybegin)},
                       chbegin, chend, format, result);
     }
 
-    // -- UDIM: names with the mark <UDIM>. Other marks are seen, and are errors
+    // -- UDIM: names with marks, of which a tile exists
 
-    bool is_udim(ustring filename) { return detail::has_udim(filename); }
-    bool is_udim(TextureHandle *udimfile) { return udimfile && detail::has_udim(udimfile->name_); }
+    bool is_udim(ustring filename) { return detail::has_mark(filename) && is_udim(get_texture_handle(filename)); }
+    bool is_udim(TextureHandle *udimfile) { return good(udimfile) && udimfile->tiles_; }
 
     // The handle of the tile at s and t, or NULL if it has no file that can be read.
     TextureHandle *resolve_udim(ustring udimpattern, float s, float t)
     {
-        return tile_at(udimpattern, get_perthread_info(), s, t);
+        Perthread *own = get_perthread_info();
+        return resolve_udim(get_texture_handle(udimpattern, own), own, s, t);
     }
     TextureHandle *resolve_udim(TextureHandle *udimfile, Perthread *thread_info, float s, float t)
     {
-        return tile_at(filename_from_handle(udimfile), get_perthread_info(thread_info), s, t);
+        std::string why;
+        TextureHandle *found = is_udim(udimfile) ? tile_at(*udimfile, get_perthread_info(thread_info), s, t, why) : nullptr;
+        if (!found) says(is_udim(udimfile) ? why : why_no_set(udimfile));
+        return found;
     }
 
-    // The names of the tiles, row by row. Those of tiles without a file are empty.
+    // The paths of the tiles, row by row. Those of tiles without a file are empty.
     void inventory_udim(ustring udimpattern, std::vector<ustring> &filenames, int &nutiles, int &nvtiles)
     {
-        const std::vector<std::uint32_t> tiles = tiles_of(udimpattern.string());
-        nutiles = nvtiles = 0;
-        for (std::uint32_t tile : tiles) {
-            nutiles = std::max(nutiles, int((tile - 1001) % 10) + 1);
-            nvtiles = std::max(nvtiles, int((tile - 1001) / 10) + 1);
-        }
-        filenames.assign(std::size_t(nutiles) * nvtiles, ustring());
-        for (std::uint32_t tile : tiles)
-            filenames[(tile - 1001) / 10 * nutiles + (tile - 1001) % 10] = detail::tile_name(udimpattern.string(), tile);
+        Perthread *own = get_perthread_info();
+        inventory_udim(get_texture_handle(udimpattern, own), own, filenames, nutiles, nvtiles);
     }
     void inventory_udim(TextureHandle *udimfile, Perthread *, std::vector<ustring> &filenames, int &nutiles, int &nvtiles)
     {
-        inventory_udim(filename_from_handle(udimfile), filenames, nutiles, nvtiles);
+        const std::vector<std::uint32_t> tiles = is_udim(udimfile) ? tiles_of(*udimfile) : std::vector<std::uint32_t>();
+        if (tiles.empty()) says(why_no_set(udimfile));
+        nutiles = nvtiles = 0;
+        for (std::uint32_t tile : tiles) {
+            nutiles = std::max(nutiles, int((tile - detail::first_tile) % 10) + 1);
+            nvtiles = std::max(nvtiles, int((tile - detail::first_tile) / 10) + 1);
+        }
+        filenames.assign(std::size_t(nutiles) * nvtiles, ustring());
+        for (std::uint32_t tile : tiles) {
+            const std::uint32_t at = tile - detail::first_tile;
+            filenames[at / 10 * nutiles + at % 10] = path_of_tile(*udimfile, tile);
+        }
     }
 
     // -- replaced files
@@ -848,20 +841,18 @@ public:
         return name == "max_memory_MB" ? TypeFloat : name.substr(0, 5) == "stat:" ? TypeInt64 : TypeInt;
     }
 
-    // What the cache of each folder has done, in words. From level 2 on with a line for each used file.
+    // What the cache has done, in words. From level 2 on with a line for each used file.
     std::string getstats(int level = 1, bool icstats = true) const
     {
         (void)icstats;
-        std::string all;
         std::lock_guard<std::mutex> guard(state_->lock);
-        for (const auto &it : state_->folders) {
-            std::size_t needed = 0;
-            if (level > 0) texcache_statistics_text(it->cache, std::uint32_t(level), nullptr, 0, &needed);
-            std::string text(needed + 1024, 0);
-            if (needed) texcache_statistics_text(it->cache, std::uint32_t(level), &text[0], text.size(), nullptr);
-            all += "folder " + it->path + "\n" + text.c_str() + "\n";
-        }
-        return level > 0 ? all : std::string();
+        texcache *cache = state_->files.cache;
+        std::size_t needed = 0;
+        if (level < 1 || !cache) return std::string();
+        texcache_statistics_text(cache, std::uint32_t(level), nullptr, 0, &needed);
+        std::string text(needed + 1024, 0);
+        texcache_statistics_text(cache, std::uint32_t(level), &text[0], text.size(), nullptr);
+        return text.c_str();
     }
 
     // Counts go on: texcache has no call that sets them to 0.
@@ -895,7 +886,7 @@ private:
     struct State {
         std::uint64_t number = 0;
         std::mutex lock;   // guards what follows
-        std::deque<std::unique_ptr<detail::Folder>> folders;
+        detail::Cache files;
         std::unordered_map<std::string, std::unique_ptr<TextureHandle>> handles;
         std::vector<std::unique_ptr<Perthread>> perthreads;
         std::deque<detail::Facts> facts;
@@ -918,21 +909,17 @@ private:
 
         static void end_passes(Perthread &thread)
         {
-            for (detail::Access &it : thread.accesses_)
-                if (it.pass && !it.lock) texcache_end(&it.pass);
+            if (thread.access_.pass && !thread.access_.lock) texcache_end(&thread.access_.pass);
         }
 
-        // Ends all passes and closes all caches. No call may run.
+        // Ends all passes and closes the cache. No call may run.
         void close()
         {
             std::lock_guard<std::mutex> guard(lock);
             for (auto &it : perthreads) end_passes(*it);
             perthreads.clear();
-            for (auto &it : folders) {
-                if (it->common) texcache_end(&it->common);
-                if (it->cache) texcache_close(&it->cache);
-            }
-            folders.clear();
+            if (files.common) texcache_end(&files.common);
+            if (files.cache) texcache_close(&files.cache);
         }
     };
 
@@ -1008,58 +995,120 @@ private:
         return handle->error_;
     }
 
+    // Why the thread's latest failed call failed, with the path as the program knows it.
+    std::string latest(const TextureHandle &handle) const
+    {
+        const std::string text = texcache_last_error(), asked = detail::absolute(handle.path_);
+        const char *known = texcache_file_name(state_->files.cache, handle.file_);
+        for (string_view name : {string_view(asked), string_view(known ? known : "")})
+            if (!name.empty() && text.compare(0, name.size(), name) == 0) return handle.path_ + text.substr(name.size());
+        return handle.path_ + ": " + text;
+    }
+
     // -- UDIM
 
-    TextureHandle *tile_at(ustring pattern, Perthread *own, double s, double t)
+    // The path of a tile's file, or an empty one.
+    ustring path_of_tile(TextureHandle &set, std::uint32_t tile)
     {
-        const double u = std::floor(s), v = std::floor(t), tile = 1001 + u + 10 * v;
-        const bool is_one = u >= 0 && u <= 9 && v >= 0 && tile <= 9999;
-        ustring name = is_one ? detail::tile_name(pattern.string(), std::uint32_t(tile)) : ustring();
-        TextureHandle *found = name.empty() ? nullptr : get_texture_handle(name, own);
+        std::uint32_t file;
+        if (texcache_udim_file(state_->files.cache, set.file_, tile, &file)) return ustring();
+        return ustring(texcache_file_name(state_->files.cache, file));
+    }
+
+    // Stands for a tile without a file, until the set is checked again.
+    static TextureHandle *no_tile()
+    {
+        static TextureHandle none;
+        return &none;
+    }
+
+    // The handle of the tile at s and t; if it cannot be read NULL, and why.
+    TextureHandle *tile_at(TextureHandle &set, Perthread *own, double s, double t, std::string &why)
+    {
+        const std::uint32_t tile = detail::tile_at(s, t);
+        if (!tile) return why = name_of(&set) + ": there is no such tile", nullptr;
+        std::atomic<TextureHandle *> &place = set.tiles_[tile - detail::first_tile];
+        TextureHandle *found = place.load(std::memory_order_acquire);
+        if (!found) {
+            const ustring path = path_of_tile(set, tile);
+            found = path.empty() ? no_tile() : handle_at(path, path.string(), own);
+            place.store(found, std::memory_order_release);
+        }
         if (good(found)) return found;
-        says(found ? why_not(found) : pattern.string() + ": this UDIM name has no such tile, or another mark than <UDIM>");
+        why = found == no_tile() ? name_of(&set) + ": tile " + std::to_string(tile) + " has no file" : why_not(found);
         return nullptr;
     }
 
-    // A lookup by a handle without a file: if it is that of a UDIM name, in the file of the tile.
+    // A lookup in a UDIM set: in the file of the tile, at the rest of s and t. Other files cannot be read.
     bool in_tile(TextureHandle *handle, Perthread *own, TextureOpt &options, detail::Place place, const detail::Result &to)
     {
-        TextureHandle *tile = is_udim(handle) ? tile_at(handle->name_, own, place.s, place.t) : nullptr;
+        std::string why;
+        if (!is_udim(handle)) return is_missing(handle, options, to);
+        if (!(place.s - place.s == 0 && place.t - place.t == 0)) return fails(handle, "s or t is no finite number", options, to);
+        TextureHandle *tile = tile_at(*handle, own, place.s, place.t, why);
         const detail::Facts *facts = tile ? tile->facts_.load(std::memory_order_acquire) : nullptr;
-        if (!facts) return is_missing(handle, options, to);
+        if (!facts) {
+            fill_all(options.fill, options.missingcolor, to);
+            return options.missingcolor ? true : says(why);
+        }
         place.s -= std::floor(place.s);
         place.t -= std::floor(place.t);
-        return look_up(*tile, access(own, *tile->folder_), facts, options, place, to);
+        return look_up(*tile, access(own), facts, options, place, to);
     }
 
-    // The numbers of the tiles of a name, in the first folder of the search path that has one.
-    std::vector<std::uint32_t> tiles_of(const std::string &pattern)
+    std::string why_no_set(const TextureHandle *handle) const
     {
-        std::vector<std::uint32_t> tiles(8999);
+        return handle && handle->facts_.load() ? name_of(handle) + ": this is no UDIM name" : why_not(handle);
+    }
+
+    // The numbers of the tiles of a set that have a file now.
+    std::vector<std::uint32_t> tiles_of(TextureHandle &set)
+    {
+        std::vector<std::uint32_t> tiles(detail::last_tile - detail::first_tile + 1);
+        std::size_t count = 0;
+        texcache_udim_tiles(state_->files.cache, set.file_, tiles.data(), tiles.size(), &count);
+        tiles.resize(count);
+        return tiles;
+    }
+
+    // -- files
+
+    // The paths that a name may mean: itself, and if it is relative in each folder of the search path.
+    std::vector<std::string> paths_of(const std::string &filename) const
+    {
+        std::vector<std::string> found = {filename};
+        if (filename.empty() || filename[0] == '/') return found;
         std::lock_guard<std::mutex> guard(state_->lock);
-        std::string path = pattern.empty() || pattern[0] == '/' ? "" : state_->searchpath;
-        for (std::size_t at = 0; at <= path.size();) {
+        const std::string &path = state_->searchpath;
+        for (std::size_t at = 0; at < path.size();) {
             std::size_t end = std::min(path.find_first_of(":;", at), path.size());
-            std::string tried = end > at ? path.substr(at, end - at) + "/" + pattern : pattern;
-            auto [folder, name] = detail::split(tried);
-            int status = TEXCACHE_OK;
-            std::uint32_t set;
-            std::size_t count = 0;
-            detail::Folder *in = folder_of(folder, status);
-            if (in && !texcache_find(in->cache, name.c_str(), &set)
-                && !texcache_udim_tiles(in->cache, set, tiles.data(), tiles.size(), &count))
-                return tiles.resize(count), tiles;
+            if (end > at) found.push_back(path.substr(at, end - at) + (path[end - 1] == '/' ? "" : "/") + filename);
             at = end + 1;
         }
-        says(pattern + ": no tile of this UDIM name is found");
-        return {};
+        return found;
     }
-
-    // -- files and folders
 
     TextureHandle *handle_of(ustring filename, Perthread *own)
     {
         std::string path = resolve_filename(filename.string());
+        if (detail::has_mark(filename) && !detail::is_file(path)) path = path_of_set(filename.string());
+        return handle_at(filename, path, own);
+    }
+
+    // The first path of a UDIM name that has a tile; if none has, the name itself.
+    std::string path_of_set(const std::string &pattern)
+    {
+        for (const std::string &it : paths_of(pattern)) {
+            std::lock_guard<std::mutex> guard(state_->lock);
+            std::uint32_t set;
+            if (!opened() && !texcache_find(state_->files.cache, detail::absolute(it).c_str(), &set)) return it;
+        }
+        return pattern;
+    }
+
+    // The handle of a path, which is made at the first call.
+    TextureHandle *handle_at(ustring filename, const std::string &path, Perthread *own)
+    {
         TextureHandle *found;
         {
             std::lock_guard<std::mutex> guard(state_->lock);
@@ -1075,45 +1124,55 @@ private:
         return found;
     }
 
-    // Finds the file in the cache of its folder, and what it is.
+    // Finds the file in the cache, and what it is.
     void open(TextureHandle &handle, Perthread *own)
     {
-        std::unique_lock<std::mutex> guard(state_->lock);
-        if (detail::has_udim(handle.name_)) {
-            handle.error_ = handle.name_.string() + ": this UDIM name has no such tile, or another mark than <UDIM>";
-            return;
-        }
-        auto [folder, name] = detail::split(handle.path_);
-        int status = TEXCACHE_OK;
-        if (!handle.folder_) {
-            handle.folder_ = folder_of(folder, status);
-            if (!status) status = texcache_find(handle.folder_->cache, name.c_str(), &handle.file_);
-            if (status) {
-                handle.folder_ = nullptr;
-                handle.error_ = detail::latest(handle.path_);
-                return;
+        {
+            std::lock_guard<std::mutex> guard(state_->lock);
+            if (handle.file_ == detail::no_file) {
+                std::uint32_t file;
+                int status = opened();
+                if (!status) status = texcache_find(state_->files.cache, detail::absolute(handle.path_).c_str(), &file);
+                if (status) {
+                    handle.error_ = latest(handle);
+                    return;
+                }
+                handle.file_ = file;
+                if (texcache_is_udim(state_->files.cache, file))
+                    handle.tiles_.reset(new std::atomic<TextureHandle *>[detail::last_tile - detail::first_tile + 1]());
             }
         }
-        guard.unlock();
-        refresh(handle, access(own, *handle.folder_));
+        if (handle.tiles_) open_set(handle, own);
+        else refresh(handle, access(own));
     }
 
-    // The cache of a folder, which is opened if it is not; the state's lock is held.
-    detail::Folder *folder_of(const std::string &path, int &status)
+    // A set has the facts of its first tile that can be read.
+    void open_set(TextureHandle &set, Perthread *own)
     {
-        for (const auto &it : state_->folders)
-            if (it->path == path) return it.get();
-        std::unique_ptr<detail::Folder> made(new detail::Folder);
-        made->path = path;
-        made->index = state_->folders.size();
-        status = texcache_open(&made->cache, path.c_str(), &state_->options);
-        if (!status) status = texcache_new_pass(made->cache, &made->common);
-        if (status) {
-            if (made->cache) texcache_close(&made->cache);
-            return nullptr;
+        const detail::Facts *facts = nullptr;
+        for (std::uint32_t tile : tiles_of(set)) {
+            const ustring path = path_of_tile(set, tile);
+            TextureHandle *found = path.empty() ? nullptr : handle_at(path, path.string(), own);
+            facts = found ? found->facts_.load(std::memory_order_acquire) : nullptr;
+            std::lock_guard<std::mutex> guard(state_->lock);
+            if (facts) break;
+            if (found) set.error_ = found->error_;
         }
-        state_->folders.push_back(std::move(made));
-        return state_->folders.back().get();
+        set.facts_.store(facts, std::memory_order_release);
+    }
+
+    // Opens the cache if it is not open; the state's lock is held. Any file may be found, as in OpenImageIO.
+    int opened()
+    {
+        detail::Cache &files = state_->files;
+        if (files.cache) return TEXCACHE_OK;
+        texcache_options options = state_->options;
+        options.outside_paths = true;
+        options.missing_ms = 0;   // handles remember what is missing, until they are checked again
+        int status = texcache_open(&files.cache, ".", &options);
+        if (!status) status = texcache_new_pass(files.cache, &files.common);
+        if (status && files.cache) texcache_close(&files.cache);
+        return status;
     }
 
     // Reads what the file is now; returns NULL if it cannot be read, and keeps why.
@@ -1126,7 +1185,7 @@ private:
         std::lock_guard<std::mutex> guard(state_->lock);
         const detail::Facts *kept = handle.facts_.load();
         if (status) {
-            handle.error_ = detail::latest(handle.path_);
+            handle.error_ = latest(handle);
             kept = nullptr;
         } else if (!kept || kept->generation != found.generation) {
             found.spec = spec_of(found.info);
@@ -1139,16 +1198,17 @@ private:
 
     void check_again(TextureHandle &handle, Perthread *own, bool force)
     {
-        detail::Folder *folder;
+        bool is_found;
         {
             std::lock_guard<std::mutex> guard(state_->lock);
-            folder = handle.folder_;
+            is_found = handle.file_ != detail::no_file;
         }
-        if (!folder) {
+        if (is_found && handle.tiles_) check_tiles(handle, own, force);
+        if (!is_found || handle.tiles_) {
             open(handle, own);
             return;
         }
-        detail::Access &by = access(own, *folder);
+        detail::Access &by = access(own);
         texcache_answer answer;
         int status = called(by, [&] { return texcache_invalidate(by.pass, handle.file_, force, &answer); });
         if (!status) {
@@ -1156,27 +1216,34 @@ private:
             return;
         }
         // what is cached of it would still be found
-        says(detail::latest(handle.path_));
+        says(latest(handle));
         std::lock_guard<std::mutex> guard(state_->lock);
-        handle.error_ = detail::latest(handle.path_);
+        handle.error_ = latest(handle);
         handle.facts_.store(nullptr, std::memory_order_release);
+    }
+
+    void check_tiles(TextureHandle &set, Perthread *own, bool force)
+    {
+        for (std::uint32_t k = 0; k <= detail::last_tile - detail::first_tile; k++)
+            if (TextureHandle *tile = set.tiles_[k].load(std::memory_order_acquire)) {
+                if (tile == no_tile()) set.tiles_[k].store(nullptr, std::memory_order_release);
+                else check_again(*tile, own, force);
+            }
     }
 
     // -- passes
 
-    detail::Access &access(Perthread *own, detail::Folder &folder)
+    detail::Access &access(Perthread *own)
     {
-        if (folder.index < own->accesses_.size() && own->accesses_[folder.index].pass) return own->accesses_[folder.index];
-        return make_access(own, folder);
+        if (!own->access_.pass) make_access(own);
+        return own->access_;
     }
 
-    // A cache has at most 15 passes; further threads share one.
-    detail::Access &make_access(Perthread *own, detail::Folder &folder)
+    // A cache has at most 15 passes, and one of them is shared by the threads that get none of their own.
+    void make_access(Perthread *own)
     {
-        if (own->accesses_.size() <= folder.index) own->accesses_.resize(folder.index + 1);
-        detail::Access &made = own->accesses_[folder.index];
-        if (texcache_new_pass(folder.cache, &made.pass)) made = {folder.common, &folder.lock};
-        return made;
+        detail::Cache &files = state_->files;
+        if (texcache_new_pass(files.cache, &own->access_.pass)) own->access_ = {files.common, &files.lock};
     }
 
     template <class Call> static int called(detail::Access &by, Call call)
@@ -1186,11 +1253,12 @@ private:
         return call();
     }
 
-    static texcache_statistics statistics(detail::Folder &folder)
+    // What the cache has read; the state's lock is held.
+    texcache_statistics statistics() const
     {
         texcache_statistics found = texcache_statistics();
-        std::lock_guard<std::mutex> guard(folder.lock);
-        texcache_stats(folder.common, &found);
+        std::lock_guard<std::mutex> guard(state_->files.lock);
+        if (state_->files.common) texcache_stats(state_->files.common, &found);
         return found;
     }
 
@@ -1299,13 +1367,11 @@ private:
     bool is_quick(TextureHandle &handle, Perthread *own, const detail::Facts &facts, const TextureOpt &options, float s,
                   float t, const detail::Result &to) const
     {
-        detail::Folder &folder = *handle.folder_;
         std::uint16_t values[8];
         texcache_answer answer;
         bool is_near = s >= -16000 && s <= 16000 && t >= -16000 && t <= 16000;
-        if (folder.index >= own->accesses_.size() || !is_near || state_->flip_t.load(std::memory_order_relaxed)) return false;
-        const detail::Access &by = own->accesses_[folder.index];
-        if (!by.pass || by.lock) return false;
+        const detail::Access &by = own->access_;
+        if (!by.pass || by.lock || !is_near || state_->flip_t.load(std::memory_order_relaxed)) return false;
         texcache_texture_options &how = own->how_;
         how.swrap = wrap_of(options.swrap), how.twrap = wrap_of(options.twrap);
         how.channels = channels_of(facts.info, options, to.nchannels);
@@ -1331,7 +1397,7 @@ private:
             if (!status && (to.ds || to.dt)) status = called(by, [&] { return slopes_of(handle, by.pass, how, ds, dt, sloped); });
             if (status) {
                 fill_all(options.fill, options.missingcolor, to);
-                return options.missingcolor ? true : says(detail::latest(handle.path_));
+                return options.missingcolor ? true : says(latest(handle));
             }
             if ((answer.generation == facts->generation && sloped.generation == facts->generation) || tries == 8) {
                 put_values(facts->info, options, values, to);
@@ -1461,7 +1527,7 @@ private:
         how.max_probes = std::uint32_t(std::min(std::max(first.anisotropic, 1), 32));
         const double *d = as_points ? nullptr : at[0] + 2;
         texcache_coordinates places = {at[0], at[0] + 1, d, d ? d + 1 : d, d ? d + 2 : d, d ? d + 3 : d, 6};
-        detail::Access &by = access(own, *handle.folder_);
+        detail::Access &by = access(own);
         int status = called(by, [&] {
             return texcache_texture_many(by.pass, handle.file_, &how, &places, std::size_t(count), values, W * 8, nullptr,
                                          &answer); });
@@ -1485,7 +1551,7 @@ private:
                 return texcache_get_pixels(by.pass, handle.file_, &region, values.data(), values.size(), &answer); });
             if (status == TEXCACHE_SMALL_BUFFER) values.resize(std::size_t(answer.value));
         } while (status == TEXCACHE_SMALL_BUFFER);
-        if (status) return says(detail::latest(handle.path_));
+        if (status) return says(latest(handle));
         int channels = int(answer.channels), wanted = chend - chbegin;
         for (std::uint64_t n = 0; n < count; n++)
             for (int c = 0; c < wanted; c++) {
@@ -1520,7 +1586,7 @@ private:
 
     // -- attributes
 
-    // Sets an option of the caches, which have to be made yet.
+    // Sets an option of the cache, which has to be made yet.
     bool set_number(string_view name, double value)
     {
         if (name == "gray_to_rgb" || name == "flip_t") {
@@ -1540,20 +1606,18 @@ private:
         std::unique_lock<std::mutex> guard(state_->lock);
         texcache_options changed = state_->options;
         const char *range = changed_by(changed, name, value);
-        std::string opened = state_->folders.empty() ? std::string() : state_->folders.front()->path;
         bool is_known = range, is_in_range = range && !*range;
         const texcache_options &o = state_->options;
         bool is_same = changed.budget == o.budget && changed.handles == o.handles && changed.autotile == o.autotile
                        && changed.automip == o.automip;
-        if (is_in_range && (opened.empty() || is_same)) {
+        if (is_in_range && (!state_->files.cache || is_same)) {
             state_->options = changed;
             return true;
         }
         guard.unlock();
         if (!is_known) return says("there is no attribute " + std::string(name) + " that is a number");
         if (!is_in_range) return says(std::string(name) + " is out of range: " + range);
-        return says(std::string(name) + " cannot change any more: the cache of " + opened
-                    + " is open. Set it before the first file is opened");
+        return says(std::string(name) + " cannot change any more: the cache is open. Set it before the first file is opened");
     }
 
     // Changes an option. Returns an empty text; or the range, if the value is not in it; or NULL for an unknown name.
@@ -1612,11 +1676,8 @@ private:
         else if (name == "forcefloat" || name == "deduplicate" || name == "stochastic" || name == "autoscanline") value = 0;
         else if (name == "total_files" || name == "stat:unique_files") value = double(state_->handles.size());
         else if (name == "stat:bytes_read" || name == "stat:open_files_created") {
-            value = 0;
-            for (const auto &it : state_->folders) {
-                texcache_statistics found = statistics(*it);
-                value += double(name == "stat:bytes_read" ? found.bytes : found.opens);
-            }
+            const texcache_statistics found = statistics();
+            value = double(name == "stat:bytes_read" ? found.bytes : found.opens);
         } else {
             guard.unlock();
             return says("there is no attribute " + std::string(name) + " that is a number");

@@ -272,6 +272,36 @@ void say_rest(std::ostream &out, TextureSystem *system, const std::string &folde
     out << '\n';
 }
 
+// The tiles of a UDIM name: which there are, and values in them and around.
+void say_tiles(std::ostream &out, TextureSystem *system, const std::string &folder, const char *name)
+{
+    const ustring pattern(folder + "/" + name);
+    std::vector<ustring> names;
+    int across = -1, down = -1;
+    out << name << " is_udim " << system->is_udim(pattern);
+    if (!system->is_udim(pattern)) {
+        out << '\n';
+        return;
+    }
+    system->inventory_udim(pattern, names, across, down);
+    out << " good " << system->good(system->get_texture_handle(pattern)) << ' ' << across << " by " << down;
+    for (const ustring &it : names) out << ' ' << it.string().substr(it.string().rfind('/') + 1);
+    TextureOpt options;
+    options.swrap = options.twrap = TextureOpt::WrapClamp;
+    options.interpmode = TextureOpt::InterpClosest;
+    options.mipmode = TextureOpt::MipModeNoMIP;
+    options.fill = 0.25f;
+    for (float s : {-3.3f, -0.3f, 0.3f, 1.3f, 2.3f, 10.3f})
+        for (float t : {-1.6f, 0.4f, 1.4f, 2.4f}) {
+            float values[3] = {9, 9, 9};
+            bool is_there = system->texture(pattern, options, s, t, 0, 0, 0, 0, 3, values);
+            out << ' ' << is_there << (system->resolve_udim(pattern, s, t) ? " tile" : " none");
+            for (float it : values) out << ' ' << int(255 * it + 0.5f);
+        }
+    system->geterror();
+    out << '\n';
+}
+
 }  // namespace
 
 int main(int count, char **words)
@@ -297,6 +327,9 @@ int main(int count, char **words)
     std::ofstream facts(to + "/facts.txt");
     for (const char *it : {"rgb.tif", "wide.tif", "grey.tif", "deep.tif", "nothing.tif"}) say_facts(facts, system, folder, it);
     say_rest(facts, system, folder);
+    for (const char *it : {"t.<UDIM>.tif", "t.%(UDIM)d.tif", "t_<u>_<v>.tif", "t_<U>_<V>.tif", "t_<uvtile>.tif", "t_<UVTILE>.tif",
+                           "t_u##v##.tif", "t_<udim>.tif", "none.<UDIM>.tif", "rgb.tif"})
+        say_tiles(facts, system, folder, it);
     TextureSystem::destroy(system);
     return 0;
 }

@@ -268,7 +268,7 @@ static int texc_keep_set(texcache *cache, const char *asked, texc_set *set, uint
     return TEXCACHE_OK;
 }
 
-/* Makes the set of a name with the mark <UDIM>. */
+/* Makes the set of a name with marks. */
 static int texc_find_set(texcache *cache, const char *asked, const char *name, uint32_t *number)
 {
     texc_set *set = NULL;

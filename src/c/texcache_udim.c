@@ -1,7 +1,8 @@
-/* texcache_udim.c: sets of files, one for each unit square of s and t, by names with the mark <UDIM>. */
+/* texcache_udim.c: sets of files, one for each unit square of s and t, by names with marks like <UDIM>. */
 #define _POSIX_C_SOURCE 200809L
 #include "texcache_inside.h"
 
+#include <errno.h>
 #include <stdio.h>
 #include <stdlib.h>
 
@@ -10,12 +11,20 @@
 #define TEXC_LAST_TILE 9999
 #define TEXC_ACROSS 10
 #define TEXC_TILES (TEXC_LAST_TILE - TEXC_FIRST_TILE + 1)
-#define TEXC_DIGITS 4
 
-static const char texc_mark[] = "<UDIM>";
+/* A pattern is a name in which these bytes stand for numbers of the tile; u and v count from 0 or from 1. */
+enum { TEXC_NUMBER = 1, TEXC_U, TEXC_V, TEXC_U_FROM_1, TEXC_V_FROM_1, TEXC_U_WIDE, TEXC_V_WIDE, TEXC_KINDS };
+
+/* The marks, which are OpenImageIO's, and what takes their place in a pattern. If a name has the first one, that counts once
+ * and the others are text, as for the program. */
+static const char *const texc_marks[][2] = {
+    {"<UDIM>", "\1"}, {"%(UDIM)d", "\1"}, {"<u>", "u\2"}, {"<v>", "v\3"}, {"<U>", "u\4"}, {"<V>", "v\5"},
+    {"<uvtile>", "u\2_v\3"}, {"<UVTILE>", "u\4_v\5"}, {"_u##v##", "_u\6v\7"}};
+#define TEXC_MARKS (sizeof texc_marks / sizeof *texc_marks)
 
 struct texc_set {
     uint32_t files[TEXC_TILES];  /* the number of each tile's file, and 1; 0 if it was not found so far */
+    const char *pattern;         /* behind the name */
     char name[];                 /* as it was asked for */
 };
 
@@ -28,10 +37,64 @@ typedef struct texc_run {
 
 /* ---- tiles and their files */
 
-/* Whether a name has the mark. */
+static bool texc_is_number(char it)
+{
+    return it > 0 && it < TEXC_KINDS;
+}
+
+/* The mark at the beginning of a text, or TEXC_MARKS. */
+static size_t texc_mark_at(const char *text)
+{
+    size_t k = 0;
+    while (k < TEXC_MARKS && strncmp(text, texc_marks[k][0], strlen(texc_marks[k][0]))) k++;
+    return k;
+}
+
+/* Makes the pattern of a name, which is never longer. Returns whether the name says the whole number of a tile. */
+static bool texc_make_pattern(const char *name, char *pattern)
+{
+    bool has[TEXC_KINDS] = {false};
+    const char *first = strstr(name, texc_marks[0][0]);
+    while (*name) {
+        const size_t k = !first ? texc_mark_at(name) : name == first ? 0 : TEXC_MARKS;
+        if (k == TEXC_MARKS) {
+            if (texc_is_number(*name)) return false;
+            *pattern++ = *name++;
+            continue;
+        }
+        for (const char *it = texc_marks[k][1]; *it; *pattern++ = *it++) has[texc_is_number(*it) ? (size_t)*it : 0] = true;
+        name += strlen(texc_marks[k][0]);
+    }
+    *pattern = 0;
+    return has[TEXC_NUMBER]
+           || ((has[TEXC_U] || has[TEXC_U_FROM_1] || has[TEXC_U_WIDE]) && (has[TEXC_V] || has[TEXC_V_FROM_1] || has[TEXC_V_WIDE]));
+}
+
+/* Whether a name means a set. */
 bool texc_has_mark(const char *name)
 {
-    return strstr(name, texc_mark) != NULL;
+    char pattern[TEXC_PATH];
+    return strlen(name) < sizeof pattern && texc_make_pattern(name, pattern);
+}
+
+/* Writes the name that a pattern, up to its end, has for a tile. Returns whether there was room. */
+static bool texc_name_tile(const char *pattern, const char *end, uint32_t tile, char *name, size_t room)
+{
+    const unsigned u = (tile - TEXC_FIRST_TILE) % TEXC_ACROSS, v = (tile - TEXC_FIRST_TILE) / TEXC_ACROSS;
+    const unsigned numbers[TEXC_KINDS] = {0, tile, u, v, u + 1, v + 1, u, v};
+    size_t size = 0;
+    for (; pattern < end && size + 1 < room; pattern++) {
+        if (texc_is_number(*pattern)) {
+            const int digits = *pattern >= TEXC_U_WIDE ? 2 : 1;
+            const int more = snprintf(name + size, room - size, "%0*u", digits, numbers[(size_t)*pattern]);
+            size += (size_t)more;
+        } else {
+            name[size++] = *pattern;
+        }
+    }
+    if (size >= room) return texc_fails("the path is too long", ENAMETOOLONG);
+    name[size] = 0;
+    return pattern == end || texc_fails("the path is too long", ENAMETOOLONG);
 }
 
 /* The set of a number, or NULL. */
@@ -53,44 +116,59 @@ static uint32_t texc_tile_of(int64_t u, int64_t v)
 static int texc_find_tile(texcache *cache, texc_set *set, uint32_t tile, uint32_t *file)
 {
     uint32_t *place = &set->files[tile - TEXC_FIRST_TILE];
-    const char *mark = strstr(set->name, texc_mark);
     char name[TEXC_PATH];
     *file = __atomic_load_n(place, __ATOMIC_RELAXED) - 1;
     if (*file != TEXC_NO_FILE) return TEXCACHE_OK;
-    snprintf(name, sizeof name, "%.*s%04u%s", (int)(mark - set->name), set->name, (unsigned)tile, mark + strlen(texc_mark));
+    if (!texc_name_tile(set->pattern, strchr(set->pattern, 0), tile, name, sizeof name)) return TEXCACHE_NO_TILE;
     int status = texc_find_file(cache, name, file);
     if (!status) __atomic_store_n(place, *file + 1, __ATOMIC_RELAXED);
     return status == TEXCACHE_NO_NAME ? TEXCACHE_NO_TILE : status;
 }
 
-/* The tile that a name of a folder means: `before` and `after` stand before and behind the number. Returns 0 if none. */
-static uint32_t texc_tile_named(const char *name, const char *before, size_t size, const char *after)
+/* Reads a number of at most `most` digits and goes behind it. */
+static uint32_t texc_read_number(const char **text, int most)
 {
-    uint32_t tile = 0;
-    if (strncmp(name, before, size)) return 0;
-    for (size_t i = 0; i < TEXC_DIGITS; i++) {
-        char digit = name[size + i];
-        if (digit < '0' || digit > '9') return 0;
-        tile = 10 * tile + (uint32_t)(digit - '0');
+    uint32_t value = 0;
+    for (; most && **text >= '0' && **text <= '9'; most--) value = 10 * value + (uint32_t)(*(*text)++ - '0');
+    return value;
+}
+
+/* The tile for which a part of a pattern has a name, or 0. */
+static uint32_t texc_tile_named(const char *name, const char *part, const char *end)
+{
+    static const int digits[TEXC_KINDS] = {0, 4, 1, 3, 2, 3, 2, 3};
+    uint32_t tile = 0, u = TEXC_ACROSS, v = 0;
+    char again[TEXC_PATH];
+    const char *at = name;
+    for (const char *it = part; it < end; it++) {
+        if (!texc_is_number(*it)) {
+            if (*at++ != *it) return 0;
+            continue;
+        }
+        const uint32_t value = texc_read_number(&at, digits[(size_t)*it]);
+        if (*it == TEXC_NUMBER) tile = value;
+        else if (*it == TEXC_U || *it == TEXC_U_WIDE) u = value;
+        else if (*it == TEXC_U_FROM_1) u = value - 1;
+        else v = *it == TEXC_V_FROM_1 ? value - 1 : value;
     }
-    const size_t rest = strcspn(after, "/");
-    name += size + TEXC_DIGITS;
-    return tile >= TEXC_FIRST_TILE && !strncmp(name, after, rest) && !name[rest] ? tile : 0;
+    if (!tile) tile = texc_tile_of(u, v);
+    /* other spellings of the numbers, and different ones, are other names */
+    const bool is_one = tile >= TEXC_FIRST_TILE && tile <= TEXC_LAST_TILE;
+    return is_one && texc_name_tile(part, end, tile, again, sizeof again) && !strcmp(again, name) ? tile : 0;
 }
 
 /* What texc_each_name calls. */
 typedef struct texc_listing {
     texcache *cache;
     texc_set *set;
-    const char *before, *after;
-    size_t size;   /* of what stands before the number in the same part of the path */
+    const char *part, *end;   /* the part of the pattern that has the first number */
     int status;
 } texc_listing;
 
 static void texc_take_name(void *given, const char *name)
 {
     texc_listing *to = given;
-    uint32_t tile = texc_tile_named(name, to->before, to->size, to->after), file;
+    uint32_t tile = texc_tile_named(name, to->part, to->end), file;
     int status = tile ? texc_find_tile(to->cache, to->set, tile, &file) : TEXCACHE_OK;
     if (status && status != TEXCACHE_NO_TILE) to->status = status;
 }
@@ -98,11 +176,12 @@ static void texc_take_name(void *given, const char *name)
 /* Finds the files of all tiles that exist now. */
 static int texc_find_tiles(texcache *cache, texc_set *set)
 {
-    const char *mark = strstr(set->name, texc_mark), *part = mark;
+    const char *part = set->pattern;
     char folder[TEXC_PATH];
-    while (part > set->name && part[-1] != '/') part--;
-    texc_listing listing = {cache, set, part, mark + strlen(texc_mark), (size_t)(mark - part), TEXCACHE_OK};
-    snprintf(folder, sizeof folder, "%.*s", (int)(part - set->name), set->name);
+    while (!texc_is_number(*part)) part++;
+    while (part > set->pattern && part[-1] != '/') part--;
+    texc_listing listing = {cache, set, part, part + strcspn(part, "/"), TEXCACHE_OK};
+    snprintf(folder, sizeof folder, "%.*s", (int)(part - set->pattern), set->pattern);
     texc_each_name(cache, folder, texc_take_name, &listing);
     return listing.status;
 }
@@ -120,9 +199,11 @@ int texc_make_set(texcache *cache, const char *name, texc_set **out)
     const size_t size = strlen(name) + 1;
     uint32_t file;
     int status = TEXCACHE_OK;
-    texc_set *set = size > TEXC_PATH - TEXC_DIGITS ? NULL : calloc(1, sizeof *set + size);
-    if (!set) return size > TEXC_PATH - TEXC_DIGITS ? TEXCACHE_NO_NAME : TEXCACHE_NO_MEMORY;
+    texc_set *set = calloc(1, sizeof *set + 2 * size);
+    if (!set) return TEXCACHE_NO_MEMORY;
     memcpy(set->name, name, size);
+    set->pattern = set->name + size;
+    texc_make_pattern(name, set->name + size);
     if (texc_find_tile(cache, set, TEXC_FIRST_TILE, &file)) status = texc_find_tiles(cache, set);
     if (!status && !texc_has_tile(set)) status = TEXCACHE_NO_NAME;
     if (status == TEXCACHE_NO_NAME) texc_notes("no tile of this name is found", 0);

@@ -207,34 +207,107 @@ void of_files(TextureSystem *system)
     check(system->get_texture_handle(ustring("ramp.tif")) == system->get_texture_handle(ramp()), "one handle for one file");
     o = plain();
     check(system->texture(ustring("more.tif"), o, 0.5f / 128, 10.5f / 64, 0, 0, 0, 0, 1, value) && is_near(value[0], at(0, 10)), "a second folder");
-    check(!system->texture(ustring("wood.<UDIM>.tif"), o, 0, 0, 0, 0, 0, 0, 1, value) && said(system, "UDIM"), "UDIM names");
+    // files of both folders share the cache: its memory and its counts
+    int files = 0;
+    std::int64_t opened = 0;
+    check(system->getattribute("total_files", files) && files > 5 && system->getattribute("stat:open_files_created", OIIO::TypeInt64, &opened)
+              && opened >= 2 && has(system->getstats(2), (folder + "/ramp.tif").c_str()) && has(system->getstats(2), (other + "/more.tif").c_str()),
+          "one cache for both folders: " + system->getstats(2));
+}
+
+// The working directory comes first, then the search path, which may change at any time; paths may have several parts.
+void of_search(TextureSystem *system)
+{
+    TextureOpt o = plain();
+    float value = -1;
+    char *before = getcwd(nullptr, 0);
+    const std::string one = other + "/one", two = other + "/two";
+    for (const std::string &it : {one, two, one + "/sub"}) mkdir(it.c_str(), 0700);
+    std::string kept;
+    system->getattribute("searchpath", kept);
+    copy(folder + "/ramp.tif", one + "/sub/where.tif"), copy(folder + "/ramp.tif", two + "/there.tif");
+    const auto looks = [&](const char *name) {
+        return system->texture(ustring(name), o, 3.5f / 128, 10.5f / 64, 0, 0, 0, 0, 1, &value) && is_near(value, at(3, 10));
+    };
+    system->attribute("searchpath", one);
+    check(looks("sub/where.tif") && looks("./sub/../sub/where.tif"), "a path of two parts on the search path");
+    check(!looks("there.tif") && said(system, "there.tif"), "a file that is not on the search path");
+    system->attribute("searchpath", two + "/:" + one);
+    check(looks("there.tif") && looks("sub/where.tif"), "another search path: " + system->geterror());
+    check(!chdir(one.c_str()) && system->resolve_filename("sub/where.tif") == "sub/where.tif", "the working directory comes first");
+    system->attribute("searchpath", two);
+    check(looks("sub/where.tif") && looks("there.tif"), "relative to another working directory: " + system->geterror());
+    check(looks((two + "/../one/sub/where.tif").c_str()), "an absolute path with ..");
+    if (chdir(before)) std::abort();
+    std::free(before);
+    system->attribute("searchpath", kept);
+}
+
+void of_tiles(TextureSystem *system)
+{
+    TextureOpt o = plain();
+    float value[4];
+    const float pink[] = {1, 0.25f, 0.5f, 0.75f};
+    int across = 1, down = 1, number = 5;
     std::vector<ustring> names(3);
-    int across = 1, down = 1;
-    check(system->is_udim(ustring("wood.<UDIM>.tif")) && !system->is_udim(ramp()), "is_udim");
-    check(!system->resolve_udim(ustring("wood.<UDIM>.tif"), 1.5f, 0.5f) && said(system, "wood.1002.tif: "), "resolve_udim");
+    check(!system->texture(ustring("wood.<UDIM>.tif"), o, 0, 0, 0, 0, 0, 0, 1, value) && said(system, "wood.<UDIM>.tif: no tile of this name"), "no tile");
+    check(!system->is_udim(ustring("wood.<UDIM>.tif")) && !system->is_udim(ramp()), "is_udim of other names");
+    check(!system->resolve_udim(ustring("wood.<UDIM>.tif"), 1.5f, 0.5f) && said(system, "wood.<UDIM>.tif: "), "resolve_udim without tiles");
+    check(!system->resolve_udim(ramp(), 0.5f, 0.5f) && said(system, "no UDIM name"), "resolve_udim of a file");
     system->inventory_udim(ustring("wood.<UDIM>.tif"), names, across, down);
-    check(names.empty() && !across && !down && said(system, "UDIM"), "inventory_udim");
-    // two tiles, in a folder of the search path
-    copy(folder + "/ramp.tif", other + "/plank.1001.tif"), copy(folder + "/ramp.tif", other + "/plank.1012.tif");
-    const ustring pattern("plank.<UDIM>.tif");
-    float batch[OIIO::Tex::BatchWidth], s[OIIO::Tex::BatchWidth], t[OIIO::Tex::BatchWidth], none[OIIO::Tex::BatchWidth] = {0};
-    system->invalidate_all(true);
-    check(system->texture(pattern, o, 5.5f / 128, 10.5f / 64, 0, 0, 0, 0, 1, value) && is_near(value[0], at(5, 10)), "the first tile");
-    check(system->texture(pattern, o, 1 + 5.5f / 128, 1 + 10.5f / 64, 0, 0, 0, 0, 1, value) && is_near(value[0], at(5, 10)), "another tile");
-    check(!system->texture(pattern, o, 1.5f, 0.5f, 0, 0, 0, 0, 1, value) && said(system, "UDIM"), "a missing tile");
-    check(system->resolve_udim(pattern, 1.5f, 1.5f) == system->get_texture_handle(ustring("plank.1012.tif"))
-              && !system->resolve_udim(pattern, -1, 0), "resolve_udim finds tiles");
-    system->geterror();
-    system->inventory_udim(pattern, names, across, down);
-    check(across == 2 && down == 2 && names.size() == 4 && names[0] == ustring("plank.1001.tif") && names[1].empty()
-              && names[3] == ustring("plank.1012.tif"), "inventory_udim lists tiles");
+    check(names.empty() && !across && !down && said(system, "wood.<UDIM>.tif: "), "inventory_udim without tiles");
+    // each mark, with its names for the tiles at 0 0 and 1 2, in a folder of the search path
+    static const char *const marks[][3] = {{"a.<UDIM>.tif", "a.1001.tif", "a.1022.tif"}, {"b.%(UDIM)d.tif", "b.1001.tif", "b.1022.tif"},
+                                           {"c<u><v>.tif", "cu0v0.tif", "cu1v2.tif"}, {"d<U><V>.tif", "du1v1.tif", "du2v3.tif"},
+                                           {"e<uvtile>.tif", "eu0_v0.tif", "eu1_v2.tif"}, {"f<UVTILE>.tif", "fu1_v1.tif", "fu2_v3.tif"},
+                                           {"g_u##v##.tif", "g_u00v00.tif", "g_u01v02.tif"}};
+    for (const auto &it : marks) {
+        const ustring pattern(it[0]);
+        const std::string what = std::string(it[0]) + ": ";
+        copy(folder + "/ramp.tif", other + "/" + it[1]), copy(folder + "/ramp.tif", other + "/" + it[2]);
+        check(system->is_udim(pattern) && system->good(system->get_texture_handle(pattern)), what + "is_udim");
+        bool is_right = system->texture(pattern, o, 5.5f / 128, 10.5f / 64, 0, 0, 0, 0, 1, value) && is_near(value[0], at(5, 10));
+        is_right &= system->texture(pattern, o, 1 + 7.5f / 128, 2 + 10.5f / 64, 0, 0, 0, 0, 1, value) && is_near(value[0], at(7, 10));
+        // below 0 the tile is the first one, and the rest counts from the whole number below
+        is_right &= system->texture(pattern, o, -2 + 9.5f / 128, 10.5f / 64, 0, 0, 0, 0, 1, value) && is_near(value[0], at(9, 10));
+        check(is_right, what + "values of both tiles");
+        o.fill = 0.5f;
+        for (float s : {1.5f, 11.5f, 1e30f})
+            check(!system->texture(pattern, o, s, 0.5f, 0, 0, 0, 0, 1, value) && value[0] == 0.5f && said(system, it[0]), what + "a missing tile");
+        o.missingcolor = pink;
+        check(system->texture(pattern, o, 1.5f, 0.5f, 0, 0, 0, 0, 4, value) && value[1] == 0.25f && !system->has_error(), what + "missingcolor");
+        o.missingcolor = nullptr;
+        check(!system->texture(pattern, o, std::nanf(""), 0.5f, 0, 0, 0, 0, 1, value) && said(system, "finite"), what + "no number");
+        check(system->resolve_udim(pattern, 1.5f, 2.5f) == system->get_texture_handle(ustring(it[2])) && !system->resolve_udim(pattern, 0, 1)
+                  && said(system, it[0]), what + "resolve_udim");
+        system->inventory_udim(pattern, names, across, down);
+        check(across == 2 && down == 3 && names.size() == 6 && names[0] == ustring(other + "/" + it[1]) && names[1].empty()
+                  && names[5] == ustring(other + "/" + it[2]), what + "inventory_udim");
+        check(system->get_texture_info(pattern, 0, ustring("udim"), OIIO::TypeInt, &number) && number == 1
+                  && system->get_texture_info(pattern, 0, ustring("miplevels"), OIIO::TypeInt, &number) && number == 8, what + "facts");
+        check(!system->get_texels(pattern, o, 0, 0, 1, 0, 1, 0, 1, 0, 1, OIIO::TypeFloat, value) && said(system, "resolve_udim"), what + "get_texels");
+    }
+    const ustring pattern("a.<UDIM>.tif");
     OIIO::TextureOptBatch many;
     many.swrap = many.twrap = OIIO::Tex::Wrap::Clamp;
     many.interpmode = OIIO::Tex::InterpMode::Closest;
-    for (int i = 0; i < OIIO::Tex::BatchWidth; i++) s[i] = float(i % 2) + (float(i) + 0.5f) / 128, t[i] = float(i % 2) + 10.5f / 64;
-    bool is_right = system->texture(pattern, many, ~OIIO::Tex::RunMask(0), s, t, none, none, none, none, 1, batch);
+    float batch[OIIO::Tex::BatchWidth], s[OIIO::Tex::BatchWidth], t[OIIO::Tex::BatchWidth], none[OIIO::Tex::BatchWidth] = {0};
+    for (int i = 0; i < OIIO::Tex::BatchWidth; i++)
+        s[i] = float(i % 2) + (float(i) + 0.5f) / 128, t[i] = float(i % 2 * 2) + 10.5f / 64;
+    bool is_right = system->texture(pattern, many, OIIO::Tex::RunMaskOn, s, t, none, none, none, none, 1, batch);
     for (int i = 0; i < OIIO::Tex::BatchWidth; i++) is_right = is_right && is_near(batch[i], at(i, 10));
     check(is_right, "a batch over two tiles");
+    // a tile that comes later, one that is replaced, and one that is removed
+    copy(folder + "/ramp.tif", other + "/a.1003.tif"), copy(folder + "/rgb.tif", other + "/a.1022.tif");
+    check(!system->texture(pattern, o, 2.5f, 2.5f, 0, 0, 0, 0, 1, value) && said(system, "tile 1023 has no file"), "a missing tile has a number");
+    copy(folder + "/ramp.tif", other + "/a.1023.tif");
+    std::remove((other + "/a.1001.tif").c_str());
+    system->invalidate(pattern, true);
+    check(said(system, "a.1001.tif"), "a tile that is gone");
+    check(system->texture(pattern, o, 2 + 5.5f / 128, 2 + 10.5f / 64, 0, 0, 0, 0, 1, value) && is_near(value[0], at(5, 10)), "a new tile");
+    check(system->texture(pattern, o, 1.4f, 2.4f, 0, 0, 0, 0, 3, value) && value[2] > 0, "a tile that was replaced");
+    check(!system->texture(pattern, o, 0.5f, 0.5f, 0, 0, 0, 0, 3, value) && said(system, "a.1001.tif"), "the one that is gone");
+    check(system->good(system->get_texture_handle(pattern)), "the set is still there");
 }
 
 void of_facts(TextureSystem *system)
@@ -310,7 +383,7 @@ void of_attributes()
     check(system->getattribute("max_memory_MB", real) && real == 100, "it stays");
     std::int64_t bytes = 0;
     check(system->getattribute("stat:bytes_read", OIIO::TypeInt64, &bytes) && bytes > 0, "stat:bytes_read");
-    check(has(system->getstats(1), folder.c_str()) && system->getstats(2).size() > system->getstats(1).size()
+    check(has(system->getstats(1), "lookups  ") && has(system->getstats(2), (folder + "/ramp.tif").c_str())
               && system->getstats(0).empty(), "getstats: " + system->getstats(2));
     system->reset_stats();
     system->close(ramp());
@@ -435,6 +508,8 @@ int main(int count, char **words)
     of_places(system);
     of_options(system);
     of_files(system);
+    of_search(system);
+    of_tiles(system);
     of_facts(system);
     of_attributes();
     of_batches(system);

@@ -7,7 +7,9 @@
 #include <cstdlib>
 #include <cstring>
 #include <new>
+#include <stdlib.h>
 #include <thread>
+#include <unistd.h>
 #if __cplusplus >= 202002L
 #include <span>
 #endif
@@ -174,6 +176,63 @@ static void values(Cache &cache, Pass &pass)
     is(pass.info(bricks).channels == 3, "the size of a file");
 }
 
+// A UDIM set: bricks at 0 0 and 1 1, rings at 1 0. Each lookup is that of the tile's file at the rest.
+static void tiles(const char *demo)
+{
+    char folder[] = "/tmp/texcache-calls-XXXXXX";
+    if (!mkdtemp(folder)) return is(false, "a folder for tiles");
+    const std::string at = std::string(folder) + "/";
+    static const char *const files[][2] = {{"w_u0_v0.tif", "bricks.tif"}, {"w_u1_v0.tif", "rings.tif"}, {"w_u1_v1.tif", "bricks.tif"}};
+    for (const auto &it : files) is(!symlink((std::string(demo) + "/" + it[1]).c_str(), (at + it[0]).c_str()), "a tile");
+    {
+        Cache cache(folder);
+        Pass pass(cache);
+        const std::uint32_t set = cache.find("w_<uvtile>.tif"), same = cache.find("./w_<u>_<v>.tif"), bricks = cache.find("w_u0_v0.tif");
+        is(cache.is_udim(set) && cache.is_udim(same) && !cache.is_udim(bricks) && cache.file_name(set) == "w_<uvtile>.tif", "a set");
+        is(cache.udim_tiles(set) == std::vector<std::uint32_t>({1001, 1002, 1012}), "its tiles");
+        is(cache.udim_file(set, 1001) == bricks && cache.file_name(cache.udim_file(set, 1012)) == "w_u1_v1.tif", "their files");
+        std::uint16_t units[3], wanted[3];
+        float floats[3];
+        for (double more : {0.0, 1.0}) {
+            is(pass.texture(set, three, 0.5 + more, 0.5 + more, units) == 1 && units[0] == 42919 && units[1] == 36494 && units[2] == 34759,
+               "the middle of the bricks in a set");
+            pass.texture(same, three, 0.5 + more, 0.5 + more, floats);
+            is(floats[2] == texcache_float(34759), "as floats");
+        }
+        const std::uint32_t rings = cache.udim_file(set, 1002);
+        std::vector<double> s, t, d, none;
+        for (int i = 0; i < 200; i++) s.push_back((i * 37 % 200) / 100.0), t.push_back(i / 100.0), d.push_back(0.05), none.push_back(0);
+        for (int i = 0; i < 200; i++) t[std::size_t(i)] -= s[std::size_t(i)] < 1 && t[std::size_t(i)] >= 1;
+        std::vector<std::uint16_t> many(600), over(600);
+        std::size_t done = 0;
+        pass.texture_many(set, three, s, t, many, &done);
+        is(done == 200, "many lookups in a set");
+        pass.texture_many(set, three, s, t, d, none, none, d, over);
+        bool is_so = true;
+        for (std::size_t i = 0; i < 200; i++) {
+            const double in_s = s[i] - std::floor(s[i]), in_t = t[i] - std::floor(t[i]);
+            const std::uint32_t file = s[i] >= 1 && t[i] < 1 ? rings : bricks;
+            pass.texture(file, three, in_s, in_t, wanted);
+            is_so = is_so && !std::memcmp(wanted, &many[3 * i], sizeof wanted);
+            pass.texture_footprint(file, three, in_s, in_t, 0.05, 0, 0, 0.05, wanted);
+            is_so = is_so && !std::memcmp(wanted, &over[3 * i], sizeof wanted);
+        }
+        is(is_so, "each is that of its tile");
+        texcache_lookup fixed = texcache_lookup_at(98304, 98304, 0, 3);
+        is(pass.texture_fixed(set, fixed, units) == 1 && units[0] == 42919, "in the program's units");
+        throws(TEXCACHE_NO_TILE, "w_<uvtile>.tif: tile 1011: no plain file", [&] { pass.texture(set, three, 0.5, 1.5, units); });
+        is(pass.answer().detail == 1011, "the answer has the tile");
+        texcache_texture_options pink = three;
+        const float color[] = {1, 0, 0.5f};
+        pink.missing_color = color;
+        pass.texture(set, pink, 0.5, 1.5, floats);
+        is(floats[0] == 1 && floats[2] == 0.5f, "the color of a missing tile");
+        throws(TEXCACHE_NO_FILE, "this is a UDIM set", [&] { pass.info(set); });
+    }
+    for (const auto &it : files) unlink((at + it[0]).c_str());
+    rmdir(folder);
+}
+
 static void bad_fixed(Pass &pass, std::uint32_t bricks)
 {
     std::uint16_t out[8];
@@ -257,6 +316,7 @@ int main(int count, char **words)
     Cache cache(words[1]);
     Pass pass(cache);
     values(cache, pass);
+    tiles(words[1]);
     bad_fixed(pass, cache.find("bricks.tif"));
     regions_and_tiles(cache, pass);
     texts(cache, pass);

@@ -1,7 +1,7 @@
 /* Answers a list of requests through texcache.h, as the program texcache does: lines FOLDER THREADS [MODE] < LIST.
  *
  * Of the requests those for lookups, regions and sizes, and `sync`; request i of a round is dealt to thread
- * i mod THREADS. A request of another kind, or of a texture in tiles, is the line `-`. The closing lines of the
+ * i mod THREADS. A request of another kind is the line `-`. The closing lines of the
  * threads are those of the program. MODE is local where each lookup is first tried with texcache_texture_local_fixed.
  */
 #define _XOPEN_SOURCE 700

@@ -21,7 +21,7 @@ static std::string refusal(const Refused &e)
     std::ostringstream said;
     const texcache_answer &a = e.answer;
     said << texcache_error_string(e.status);
-    if (e.status == TEXCACHE_NO_NAME) return "no such file";
+    if (e.status == TEXCACHE_NO_NAME || e.status == TEXCACHE_NO_TILE) return "no such file";
     if (e.status == TEXCACHE_BAD_FILE) {
         said << ' ' << a.generation << ' ' << a.detail;
         if (a.detail >= 5 && a.detail <= 7) said << ' ' << a.part;
@@ -50,7 +50,6 @@ static std::string answered(const Cache &cache, Pass &pass, const std::string &l
         return cache.find(name);
     };
     if (word == "sync") return word;
-    if (line.find("<UDIM>") != std::string::npos) return "-";
     if (word == "tex" || word == "texd") {
         if (word == "tex") from >> r.s >> r.t >> r.lod >> swrap >> twrap >> filter >> r.channels;
         else from >> r.s >> r.t >> r.dsdx >> r.dtdx >> r.dsdy >> r.dtdy >> swrap >> twrap >> r.channels;

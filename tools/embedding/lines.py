@@ -13,7 +13,7 @@ FILTERS = ["closest", "bilinear", "trilinear"]
 
 def refusal(e):
     a, text = e.answer, e.reason
-    if text == "no such name":
+    if text in ("no such name", "no such UDIM tile"):
         return "no such file"
     if text == "bad file":
         more = {5: [a.part], 6: [a.part], 7: [a.part, a.value], 12: [a.part, a.value]}.get(a.detail, [])
@@ -32,7 +32,7 @@ def answered(cache, textures, line):
     many = {"tex": 7, "texd": 9, "pixels": 5, "info": 0}.get(word)
     if word == "sync":
         return word
-    if many is None or "<UDIM>" in line:
+    if many is None:
         return "-"
     *given, name = rest.split(" ", many)
     file = cache.find(name)

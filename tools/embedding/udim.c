@@ -1,4 +1,4 @@
-/* Sets of files by names with the mark <UDIM>: udim FOLDER, an empty folder that it may write to. Each lookup is that of
+/* Sets of files by names with marks like <UDIM>: udim FOLDER, an empty folder that it may write to. Each lookup is that of
  * its tile's file at the rest of s and t; tiles are listed, missing ones are errors or have the missing colour. */
 #define _XOPEN_SOURCE 700
 #include "images.h"
@@ -75,13 +75,84 @@ static void names(const char *folder)
     SAYS(texcache_udim_file(cache, set, 1001, NULL), TEXCACHE_BAD_ARGUMENT);
     SAYS(texcache_find(cache, "moon.<UDIM>.tif", &none), TEXCACHE_NO_NAME);
     IS(tells("moon.<UDIM>.tif: no tile of this name is found"));
-    /* the mark in a folder's name, a set without its first tile, and only the first mark counts */
+    /* the mark in a folder's name, a set without its first tile, and only the first <UDIM> counts */
     SAYS(texcache_find(cache, "<UDIM>/deep.tif", &none), TEXCACHE_OK);
     SAYS(texcache_udim_tiles(cache, none, tiles, 10, &count), TEXCACHE_OK);
     IS(count == 1 && tiles[0] == 1057);
     number = 3;
     put(folder, "twice.1001.<UDIM>.tif");
     SAYS(texcache_find(cache, "twice.<UDIM>.<UDIM>.tif", &none), TEXCACHE_OK);
+}
+
+/* Each mark with the names of its tiles at u and v of 0 0, 1 0, 2 3 and 9 12, as OpenImageIO 2.4 names them. Files with names
+ * that look alike are there too. */
+static void marks(const char *folder)
+{
+    static const struct {
+        const char *name, *files[4], *others[3];
+    } cases[] = {
+        {"a.%(UDIM)d.tif", {"a.1001.tif", "a.1002.tif", "a.1033.tif", "a.1130.tif"}, {"a.101.tif", "a.10010.tif", "a.0999.tif"}},
+        {"b_<u>_<v>.tif", {"b_u0_v0.tif", "b_u1_v0.tif", "b_u2_v3.tif", "b_u9_v12.tif"}, {"b_u10_v0.tif", "b_u00_v1.tif", "b_u3_v03.tif"}},
+        {"c<V><U>.tif", {"cv1u1.tif", "cv1u2.tif", "cv4u3.tif", "cv13u10.tif"}, {"cv0u1.tif", "cv1u11.tif", "cv1u0.tif"}},
+        {"<uvtile>.d.tif", {"u0_v0.d.tif", "u1_v0.d.tif", "u2_v3.d.tif", "u9_v12.d.tif"}, {"u0v0.d.tif", "u1_v900.d.tif", "u1_v.d.tif"}},
+        {"e<UVTILE>", {"eu1_v1", "eu2_v1", "eu3_v4", "eu10_v13"}, {"eu1_v1.tif", "eu1", "eu-1_v1"}},
+        {"f_u##v##.tif", {"f_u00v00.tif", "f_u01v00.tif", "f_u02v03.tif", "f_u09v12.tif"}, {"f_u0v0.tif", "f_u1v10.tif", "f_u10v00.tif"}},
+        {"<u>/g<v><u>", {"u0/gv0u0", "u1/gv0u1", "u2/gv3u2", "u9/gv12u9"}, {"u0/gv0u1", "u0/gv1u1", "u0/gv9u2"}}};
+    static const double places[4][2] = {{0.25, 0.5}, {1.25, 0.5}, {2.25, 3.5}, {9.25, 12.5}};
+    static const uint32_t wanted[4] = {1001, 1002, 1033, 1130};
+    const texcache_texture_options o = texcache_default_texture_options(3);
+    uint32_t tiles[10], found, file;
+    size_t listed;
+    for (int k = 0; k < 4; k++) {
+        char name[4200];
+        snprintf(name, sizeof name, "%s/%s", folder, (const char *const[]){"u0", "u1", "u2", "u9"}[k]);
+        if (mkdir(name, 0700)) exit(2);
+    }
+    for (size_t i = 0; i < sizeof cases / sizeof *cases; i++) {
+        for (unsigned k = 0; k < 4; k++) number = k + 1, put(folder, cases[i].files[k]);
+        for (unsigned k = 0; k < 3; k++) number = 9, put(folder, cases[i].others[k]);
+        SAYS(texcache_find(cache, cases[i].name, &found), TEXCACHE_OK);
+        IS(texcache_is_udim(cache, found) && !strcmp(texcache_file_name(cache, found), cases[i].name));
+        for (unsigned k = 0; k < 4; k++) {
+            uint16_t values[3] = {0};
+            SAYS(texcache_texture(pass, found, &o, places[k][0], places[k][1], values, 3, NULL), TEXCACHE_OK);
+            /* halfway between the texels 7 and 8 across, 15 and 16 down */
+            number = k + 1;
+            IS(values[1] == (257 * (sample(7, 15, 1) + sample(8, 16, 1)) + 1) / 2);
+            SAYS(texcache_udim_file(cache, found, wanted[k], &file), TEXCACHE_OK);
+            IS(!strcmp(texcache_file_name(cache, file), cases[i].files[k]));
+        }
+        SAYS(texcache_udim_file(cache, found, 1003, &file), TEXCACHE_NO_TILE);
+        /* in the last case u and v are not in one part of the path, so only tiles that were asked for are known */
+        SAYS(texcache_udim_tiles(cache, found, tiles, 10, &listed), TEXCACHE_OK);
+        IS(listed == 4 && !memcmp(tiles, wanted, sizeof wanted));
+    }
+    /* a set that lacks its first tile is found by the names in its folder */
+    static const char *const later[][2] = {{"h<UVTILE>", "hu3_v2"}, {"i_u##v##", "i_u02v01"}, {"j<v>_<u>", "jv1_u2"}};
+    for (size_t i = 0; i < 3; i++) {
+        put(folder, later[i][1]);
+        SAYS(texcache_find(cache, later[i][0], &found), TEXCACHE_OK);
+        SAYS(texcache_udim_tiles(cache, found, tiles, 10, &listed), TEXCACHE_OK);
+        IS(listed == 1 && tiles[0] == 1013);
+    }
+    /* a name with marks for u or v alone is that of a file */
+    SAYS(texcache_find(cache, "k<u>.tif", &found), TEXCACHE_NO_NAME);
+    IS(tells("k<u>.tif: no plain file is found"));
+    put(folder, "k<U>.tif");
+    SAYS(texcache_find(cache, "k<U>.tif", &found), TEXCACHE_OK);
+    IS(!texcache_is_udim(cache, found));
+    /* beside <UDIM> the others are text */
+    put(folder, "l.1001.<u><v>.tif");
+    SAYS(texcache_find(cache, "l.<UDIM>.<u><v>.tif", &found), TEXCACHE_OK);
+    SAYS(texcache_udim_tiles(cache, found, tiles, 10, &listed), TEXCACHE_OK);
+    IS(listed == 1 && tiles[0] == 1001);
+    /* names that are too long */
+    static char name[5000];
+    memset(name, 'm', sizeof name - 1);
+    memcpy(name, "<u><v>", 6);
+    SAYS(texcache_find(cache, name, &found), TEXCACHE_NO_NAME);
+    name[4080] = 0;
+    SAYS(texcache_find(cache, name, &found), TEXCACHE_NO_NAME);
 }
 
 /* A lookup in the set is that in the tile's file, at the rest. */
@@ -297,6 +368,7 @@ int main(int count, char **words)
     if (texcache_open(&cache, words[1], &options) || texcache_new_pass(cache, &pass)) return 2;
     SAYS(texcache_find(cache, "wall.<UDIM>.tif", &set), TEXCACHE_OK);
     names(words[1]);
+    marks(words[1]);
     lookups();
     fixed();
     many();

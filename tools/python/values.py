@@ -147,6 +147,48 @@ def of_arrays(texcache, textures, file, picture, columns):
     textures.release_tile(0)
 
 
+def tiles(texcache, folder):
+    """What holds of lookups in a UDIM set of three pictures of noise: each is the model's in the picture of its tile."""
+    marks = {1001: "n_u1_v1.tif", 1002: "n_u2_v1.tif", 1023: "n_u3_v3.tif"}
+    pictures_of = {tile: Picture(name, 40, 30, 3, 16, 16) for tile, name in marks.items()}
+    for it in pictures_of.values():
+        it.write(Path(folder))
+    drawn = random.Random("tiles")
+    rows = [(drawn.randrange(2) + drawn.random(), drawn.random()) if drawn.random() < 0.7 else
+            (2 + drawn.random(), 2 + drawn.random()) for _ in range(COUNT)]
+    columns = [*map(list, zip(*rows)), *([drawn.uniform(-0.05, 0.05) for _ in range(COUNT)] for _ in range(4))]
+
+    def wanted(value, numbers):
+        """The model's value in the tile of s and t, at their rest."""
+        s, t, *steps = map(model.fine, numbers)
+        tile = 1001 + (s >> 32) + 10 * (t >> 32)
+        return value(pictures_of[tile], s % 2 ** 32, t % 2 ** 32, steps)
+
+    at_places = [wanted(lambda it, s, t, _: model.point(it, s, t, model.lod_from(0.0), model.BILINEAR, WRAPS, 3), row)
+                 for row in zip(*columns)]
+    over = [wanted(lambda it, s, t, steps: model.footprint(it, s, t, steps, 16, WRAPS, 3), row) for row in zip(*columns)]
+    how = {"swrap": WRAPS[0], "twrap": WRAPS[1]}
+    with texcache.Cache(folder) as cache, cache.new_pass() as textures:
+        for name in ("n_<UVTILE>.tif", "n_<U>_<V>.tif"):
+            found = cache.find(name)
+            yield cache.is_udim(found) and cache.udim_tiles(found) == list(marks), f"{name}: tiles"
+            yield {it: cache.names()[cache.udim_file(found, it)] for it in marks} == marks, f"{name}: files"
+            yield lists(textures.texture(found, *columns[:2], **how)) == at_places, f"{name}: lookups"
+            yield [textures.texture(found, s, t, **how) for s, t in zip(*columns[:2])] == at_places, f"{name}: single lookups"
+            yield is_near(textures.texture(found, *columns[:2], floats=True, **how), at_places, 1e-7), f"{name}: floats"
+            yield lists(textures.texture_footprint(found, *columns, **how)) == over, f"{name}: footprints"
+            one = [textures.texture_footprint(found, *row, **how) for row in zip(*columns)]
+            yield one == over, f"{name}: single footprints"
+        if texcache.numpy:
+            np, out = texcache.numpy, texcache.numpy.empty((12, 20, 3), texcache.numpy.uint16)
+            s, t = (np.array(it).reshape(12, 20) for it in columns[:2])
+            textures.texture(found, s, t, out=out, **how)
+            yield (out == np.array(at_places).reshape(12, 20, 3)).all(), "an array of lookups in tiles"
+        gaps = textures.texture(found, [0.25, 5.5, columns[0][0]], [0.5, 0.5, columns[1][0]], floats=True,
+                                missing_color=[1, 0.5, 0], **how)
+        yield lists(gaps)[1] == [1, 0.5, 0] and is_near(lists(gaps)[2:], at_places[:1], 1e-7), "a missing tile among others"
+
+
 def of_threads(texcache, folder, cases):
     """Threads with a pass each, the passes of threads that have ended, and passes that move."""
     wrong = []
@@ -194,9 +236,10 @@ def main(texcache):
                     for is_so, what in part(texcache, textures, file, picture, columns):
                         count += 1
                         wrong += [] if is_so else [f"{picture.name}, {what}"]
-        for is_so, what in of_threads(texcache, folder, cases):
-            count += 1
-            wrong += [] if is_so else [what]
+        for part in (of_threads(texcache, folder, cases), tiles(texcache, folder)):
+            for is_so, what in part:
+                count += 1
+                wrong += [] if is_so else [what]
     print(*(f"not so: {it}" for it in wrong), f"{count} compared, {len(wrong)} wrong", sep="\n")
     return 1 if wrong else 0
 

@@ -28,6 +28,9 @@ OIIO = ["-lOpenImageIO", "-lOpenImageIO_Util"]
 ONE = 257
 # views whose filters differ by definition, and by how many 255ths they may differ at most and in the mean
 DIFFERENT = {"close_smart": (30, 4), "floor": (30, 3), "floor_blur": (30, 3)}
+# files of UDIM sets, by OpenImageIO's marks, and the textures that they are
+TILES = {"t.1001.tif": "rgb", "t.1012.tif": "wide", "t.1023.tif": "deep", "t_u0_v0.tif": "rgb", "t_u1_v1.tif": "wide",
+         "t_u2_v1.tif": "deep", "t_u00v00.tif": "rgb", "t_u01v01.tif": "wide", "t_u02v01.tif": "deep"}
 # what does not compile: a call, and a part of the text
 REFUSED = [("system->texture3d(name, options, 0, 0, 0, 0, 1, &value)", "texcache has no 3D textures"),
            ("system->texture3d(file, nullptr, options, 0, 0, 0, 0, 1, &value)", "texcache has no 3D textures"),
@@ -155,6 +158,8 @@ class Tests:
             if not self.say(status == 0, f"maketx {name}.tif", text):
                 return None
             source.unlink()
+        for name, source in TILES.items():
+            shutil.copy(folder / f"{source}.tif", folder / name)
         return folder
 
     def both(self):

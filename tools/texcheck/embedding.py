@@ -1,12 +1,10 @@
 """Tests the library tex_c, and the C, C++ and Python that use it.
 
 The demo's list and the stored run of texcache are answered by 1 and by 8 threads. Each answer must be the line of
-expected.txt or of the run's stdout; C++ and Python leave requests for UDIM textures out.
-Each thread needs the same cells as the program's worker. Then come wrong calls, passes, threads and forks, open files,
-lookups on doubles, their options and the types of results, errors in words, statistics, files that are replaced while
-they are read, and the renderer's picture, which must be the same for 1 and 8 threads. All but the picture also run
-under valgrind and with the compiler's sanitizers, of addresses, of undefined behaviour and of threads, which then see
-the C part too. `tools/check fine` tests which values lookups on doubles have.
+expected.txt or of the run's stdout. Each thread needs the same cells as the program's worker. Then come wrong calls, passes, threads and forks, open files,
+lookups on doubles, their options and the types of results, errors in words, statistics, and files that are replaced
+while they are read. All also run under valgrind and with the compiler's sanitizers, of addresses, of undefined
+behaviour and of threads, which then see the C part too. `tools/check fine` tests which values lookups on doubles have.
 """
 import os
 import shutil
@@ -64,12 +62,6 @@ def differences(got, wanted):
     if sum(it == "-" for it in answers) * 10 > len(answers):
         wrong.append("more than a tenth of the lines were not compared")
     return "\n".join([f"{len(wrong)} differ", *wrong[:3]]) if wrong else ""
-
-
-def half(picture, number):
-    """The upper half of a PPM picture, or the lower one."""
-    samples = picture[picture.index(b"255\n") + 4:] if picture else b""
-    return samples[:len(samples) // 2] if number == 0 else samples[len(samples) // 2:]
 
 
 def needs(text):
@@ -251,37 +243,6 @@ class Tests:
             if self.built("options_user", HERE / "options.c", "-std=c99", "-fsanitize=thread", "-g", over=over):
                 self.over_a_folder(f"races, the {what} with tsan.supp, options", "options_user", **installed)
 
-    def picture(self, what, name, folder, *more):
-        """The picture of a run of the renderer."""
-        out = self.made / f"{name}.ppm"
-        status, text = said([self.made / "renderer", folder, out, *more])
-        self.say(status == 0 and out.is_file(), what, text)
-        return out.read_bytes() if out.is_file() else b""
-
-    def render(self):
-        if not self.built("renderer", TOP / "examples" / "renderer" / "renderer.c", "-std=c99"):
-            return
-        demo = TOP / "demo"
-        one, eight, closest = (
-            self.picture(f"the renderer, {' '.join(it)} threads", "-".join(it), demo, "--threads", *it)
-            for it in (["1"], ["8"], ["8", "--closest"]))
-        self.say(one == eight != b"", "the picture is the same for 1 and 8 threads")
-        self.say(closest not in (one, b""), "the picture of the nearest texels is another one")
-        replaced, many = [], []
-        said([sys.executable, TOP / "examples" / "renderer" / "textures.py", self.made / "many", "--side", "256"])
-        for threads in THREADS:
-            scene = self.made / f"scene{threads}"
-            shutil.copytree(demo, scene)
-            replaced.append(self.picture(f"a texture that is replaced under the renderer, {threads} threads",
-                                         f"replaced{threads}", scene, "--threads", threads, "--replace", "bricks.tif",
-                                         scene / "rings.tif"))
-            many.append(self.picture(f"64 textures, {threads} threads", f"many{threads}", self.made / "many", "--many",
-                                     "--threads", threads, "--budget", "1000000"))
-        self.say(replaced[0] == replaced[1] != b"", "the picture with a replaced texture is the same for both")
-        self.say(half(replaced[0], 0) == half(one, 0) and half(replaced[0], 1) != half(one, 1),
-                 "its upper half shows the texture of before, and its lower half the other one")
-        self.say(many[0] == many[1] != b"", "the picture of 64 textures is the same for 1 and 8 threads")
-
 
 def add_arguments(parser):
     parser.add_argument("--library", type=Path, metavar="FILE",
@@ -298,7 +259,7 @@ def run(args):
         if skips.lacks(None if tests.cc else "a C compiler", "embedding"):
             return 1 if skips.failed else 0
         for step in (tests.headers, tests.in_c, tests.in_cxx, tests.in_python, tests.under_valgrind,
-                     tests.with_addresses, tests.with_races, tests.render):
+                     tests.with_addresses, tests.with_races):
             step()
     print(f"{tests.passed} passed, {tests.failed} failed")
     return 1 if tests.failed or skips.failed else 0

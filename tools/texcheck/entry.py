@@ -23,6 +23,7 @@ SUBCOMMANDS = {
     "bridge": "bridge",
     "viewer": "viewer",
     "baker": "baker",
+    "renderer": "renderer",
     "interface": "interface",
     "fault-words": "fault_words",
     "package": "package",

@@ -75,6 +75,7 @@ def steps(args, programs, library):
         ("bridge", "--library", library, *skip),
         ("viewer", "--library", library, *skip),
         ("baker", "--program", texmake, "--library", library, *skip),
+        ("renderer", "--library", library, *skip),
         ("package", *skip),
         ("interface", "--library", library, *skip),
         ("fault-words",),
