@@ -50,7 +50,8 @@ extern "C" {
 enum texcache_status {
     TEXCACHE_OK = 0,
     TEXCACHE_NEEDED = 1,            /* the library needs bytes; only calls of texcache_supply.h answer this */
-    TEXCACHE_BAD_OPTIONS = 2,       /* detail: 1 budget, 2 shards, 3 passes, 4 handles, 5 autotile, 6 slots */
+    TEXCACHE_BAD_OPTIONS = 2,       /* detail: 1 budget, 2 shards, 3 passes, 4 handles, 5 autotile, 6 slots,
+                                     * 7 tiles_per_shard */
     TEXCACHE_NO_FILE = 3,           /* texcache_find gave no file this number */
     TEXCACHE_BAD_REQUEST = 4,       /* a number is out of range; detail: enum texcache_bad_number, or 0 for a region */
     TEXCACHE_SMALL_BUFFER = 5,      /* value: how many values there are */
@@ -121,9 +122,9 @@ typedef struct texcache_pass texcache_pass;
 /* The options of a cache. texcache_default_options sets all of them. */
 typedef struct texcache_options {
     size_t size;        /* sizeof(texcache_options) */
-    uint64_t budget;    /* the bytes that unpinned tiles may take, 0 to 4294967296 */
+    uint64_t budget;    /* the bytes that unpinned tiles may take, 0 to 2^40 */
     uint32_t shards;    /* 1 to 64 */
-    uint32_t passes;    /* passes at once, 1 to 16; the cache keeps one for itself */
+    uint32_t passes;    /* passes at once, 1 to 1024; the cache keeps one for itself */
     uint32_t handles;   /* idle files that stay open, 1 to 1024, at most half of what RLIMIT_NOFILE allows */
     uint32_t autotile;  /* the side of the cells of a stripped level: 0, or a multiple of 16 up to 4096 */
     uint32_t slots;     /* rows kept when a tile finds no memory, 0 to 65536; some 1,100 bytes each */
@@ -132,6 +133,7 @@ typedef struct texcache_options {
     bool refuse_links;  /* find no file whose path has a symbolic link behind these folders */
     const char *search_path;  /* more folders, separated by colons, or NULL; only texcache_open reads it */
     uint32_t missing_ms;      /* milliseconds for which a file that is gone is not looked for again; 0: always look */
+    uint32_t tiles_per_shard; /* tiles that each shard can keep, 0 to 65536; at least 1024 and 7 for each pass */
 } texcache_options;
 
 /* The default options, those of the program. */

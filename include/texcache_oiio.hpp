@@ -1239,7 +1239,7 @@ private:
         return own->access_;
     }
 
-    // A cache has at most 15 passes, and one of them is shared by the threads that get none of their own.
+    // If all passes are taken, the other threads share one.
     void make_access(Perthread *own)
     {
         detail::Cache &files = state_->files;

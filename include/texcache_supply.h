@@ -18,7 +18,7 @@ extern "C" {
 /* The options of a cache: texcache_options without its size. */
 typedef struct texcache_supply_options {
     uint64_t budget;
-    uint32_t shards, passes, handles, autotile, slots;
+    uint32_t shards, passes, handles, autotile, slots, tiles_per_shard;
     bool automip;
 } texcache_supply_options;
 

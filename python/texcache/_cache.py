@@ -17,7 +17,7 @@ from ._structs import (CLOSED, FLOAT, HALF, NOT_LOCAL, OK, SMALL_BUFFER, UINT16,
                        signed, texture_options, unsigned, whole)
 
 OPTIONS = ("budget", "shards", "passes", "handles", "autotile", "slots", "automip", "search_path", "outside_paths",
-           "refuse_links", "missing_ms")
+           "refuse_links", "missing_ms", "tiles_per_shard")
 MOST_TEXELS = 1048576  # of a region
 MOST_TILES = 8999  # of a UDIM set
 
@@ -92,9 +92,9 @@ def _ended(pass_: "Pass") -> None:
 class Cache:
     """A cache of the files of a folder and of a search path. A file is looked for when `find` asks for it.
 
-    budget:   the bytes that tiles may take, 0 to 4294967296
+    budget:   the bytes that tiles may take, 0 to 2**40
     shards:   1 to 64
-    passes:   how many threads may use it, 1 to 16; the cache keeps one for itself
+    passes:   how many threads may use it, 1 to 1024; the cache keeps one for itself
     handles:  idle files that stay open, 1 to 1024
     autotile: the side of the cells of a stripped image: 0, or a multiple of 16 up to 4096
     slots:    rows kept when a tile finds no memory, 0 to 65536
@@ -103,6 +103,7 @@ class Cache:
     outside_paths: whether files outside of these folders are found too
     refuse_links:  whether no file is found whose path has a symbolic link behind these folders
     missing_ms:    milliseconds for which a file that is gone is not looked for again; 0: always look
+    tiles_per_shard: tiles that each shard can keep, 0 to 65536; at least 1024 and 7 for each pass
 
     What is not given has the library's default. A cache can be a context: `with texcache.Cache("textures") as cache`.
     Any thread may call it; each thread looks up through its own pass.
@@ -114,12 +115,13 @@ class Cache:
                  shards: Optional[int] = None, passes: Optional[int] = None, handles: Optional[int] = None,
                  autotile: Optional[int] = None, slots: Optional[int] = None, automip: Optional[bool] = None,
                  search_path: Union[None, str, bytes, "os.PathLike[Any]", Sequence[Any]] = None,
-                 outside_paths: bool = False, refuse_links: bool = False, missing_ms: Optional[int] = None) -> None:
+                 outside_paths: bool = False, refuse_links: bool = False, missing_ms: Optional[int] = None,
+                 tiles_per_shard: Optional[int] = None) -> None:
         options = lib.texcache_default_options()
         if budget is not None:
             options.budget = whole("budget", budget, 0, 2 ** 64 - 1)
         for name, value in (("shards", shards), ("passes", passes), ("handles", handles), ("autotile", autotile),
-                            ("slots", slots), ("missing_ms", missing_ms)):
+                            ("slots", slots), ("missing_ms", missing_ms), ("tiles_per_shard", tiles_per_shard)):
             if value is not None:
                 setattr(options, name, unsigned(name, value))
         if automip is not None:

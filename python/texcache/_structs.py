@@ -102,7 +102,8 @@ class Options(Struct):
     """The options of a cache: texcache_options."""
     _fields_ = [("size", c_size_t), ("budget", c_uint64), ("shards", c_uint32), ("passes", c_uint32), ("handles", c_uint32),
                 ("autotile", c_uint32), ("slots", c_uint32), ("automip", c_bool), ("outside_paths", c_bool),
-                ("refuse_links", c_bool), ("search_path", c_char_p), ("missing_ms", c_uint32)]
+                ("refuse_links", c_bool), ("search_path", c_char_p), ("missing_ms", c_uint32),
+                ("tiles_per_shard", c_uint32)]
 
 
 class Answer(Struct):

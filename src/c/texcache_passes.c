@@ -252,7 +252,7 @@ int texcache_this_thread(texcache *cache, texcache_pass **pass)
 
 texcache_options texcache_default_options(void)
 {
-    texcache_options o = {sizeof o, UINT64_C(268435456), 16, 16, 100, 64, 1024, true, false, false, NULL, 1000};
+    texcache_options o = {sizeof o, UINT64_C(268435456), 16, 256, 100, 64, 1024, true, false, false, NULL, 1000, 0};
     return o;
 }
 
@@ -279,9 +279,9 @@ static void texc_free(texcache *cache)
 static void texc_keep_option(const texcache_options *o, uint32_t bad)
 {
     static const struct { const char *name, *range; } options[] = {
-        {"budget", "0 to 4294967296"}, {"shards", "1 to 64"}, {"passes", "1 to 16"}, {"handles", "1 to 1024"},
-        {"autotile", "0, or a multiple of 16 up to 4096"}, {"slots", "0 to 65536"}};
-    const double values[] = {(double)o->budget, o->shards, o->passes, o->handles, o->autotile, o->slots};
+        {"budget", "0 to 1099511627776"}, {"shards", "1 to 64"}, {"passes", "1 to 1024"}, {"handles", "1 to 1024"},
+        {"autotile", "0, or a multiple of 16 up to 4096"}, {"slots", "0 to 65536"}, {"tiles_per_shard", "0 to 65536"}};
+    const double values[] = {(double)o->budget, o->shards, o->passes, o->handles, o->autotile, o->slots, o->tiles_per_shard};
     if (bad - 1 >= sizeof options / sizeof *options) return;
     texc_fact *fact = texc_keep(TEXCACHE_BAD_OPTIONS, options[bad - 1].name);
     fact->range = options[bad - 1].range;
@@ -293,7 +293,8 @@ static void texc_keep_option(const texcache_options *o, uint32_t bad)
 static int texc_fill(texcache *cache, const char *folder, uint32_t *bad)
 {
     const texcache_options *o = &cache->options;
-    texcache_supply_options given = {o->budget, o->shards, o->passes, o->handles, o->autotile, o->slots, o->automip};
+    texcache_supply_options given = {o->budget, o->shards, o->passes, o->handles, o->autotile, o->slots,
+                                     o->tiles_per_shard, o->automip};
     texcache_supply_answer answer;
     int refused = texc_open_folders(cache, folder);
     if (refused) {

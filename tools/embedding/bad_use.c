@@ -11,7 +11,7 @@
 #include <unistd.h>
 
 static int failures;
-static const texcache_supply_options usual = {UINT64_C(268435456), 16, 16, 100, 64, 1024, true};
+static const texcache_supply_options usual = {UINT64_C(268435456), 16, 16, 100, 64, 1024, 0, true};
 
 #define SAYS(call, wanted)                                                                                          \
     do {                                                                                                            \
@@ -309,15 +309,16 @@ static void options_out_of_range(const char *folder)
 {
     texcache *cache = NULL;
     uint32_t bad = 0;
-    texcache_options o[6];
-    for (int i = 0; i < 6; i++) o[i] = texcache_default_options();
-    o[0].budget = UINT64_C(4294967297);
+    texcache_options o[7];
+    for (int i = 0; i < 7; i++) o[i] = texcache_default_options();
+    o[0].budget = UINT64_C(1099511627777);
     o[1].shards = 65;
-    o[2].passes = 17;
+    o[2].passes = 1025;
     o[3].handles = 0;
     o[4].autotile = 65;
     o[5].slots = 65537;
-    for (uint32_t i = 0; i < 6; i++) {
+    o[6].tiles_per_shard = 65537;
+    for (uint32_t i = 0; i < 7; i++) {
         SAYS(texcache_open_saying(&cache, folder, &o[i], &bad), TEXCACHE_BAD_OPTIONS);
         IS(bad == i + 1 && !cache);
     }

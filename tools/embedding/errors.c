@@ -39,18 +39,19 @@ static const char *in(const char *folder, const char *name)
 
 static void opening(const char *folder)
 {
-    texcache_options o[7];
+    texcache_options o[8];
     texcache *none;
     char longer[9000];
-    for (int i = 0; i < 7; i++) o[i] = texcache_default_options();
-    o[0].budget = UINT64_C(4294967297), o[1].shards = 0, o[2].passes = 17, o[3].handles = 1025, o[4].autotile = 24;
-    o[5].slots = 65537, o[6].size = 4;
-    TELLS(texcache_open(&none, folder, &o[0]), TEXCACHE_BAD_OPTIONS, "budget is 4294967297", "0 to 4294967296");
+    for (int i = 0; i < 8; i++) o[i] = texcache_default_options();
+    o[0].budget = UINT64_C(1099511627777), o[1].shards = 0, o[2].passes = 1025, o[3].handles = 1025, o[4].autotile = 24;
+    o[5].slots = 65537, o[6].size = 4, o[7].tiles_per_shard = 65537;
+    TELLS(texcache_open(&none, folder, &o[0]), TEXCACHE_BAD_OPTIONS, "budget is 1099511627777", "0 to 1099511627776");
     TELLS(texcache_open(&none, folder, &o[1]), TEXCACHE_BAD_OPTIONS, "shards is 0", "1 to 64");
-    TELLS(texcache_open(&none, folder, &o[2]), TEXCACHE_BAD_OPTIONS, "passes is 17", "1 to 16");
+    TELLS(texcache_open(&none, folder, &o[2]), TEXCACHE_BAD_OPTIONS, "passes is 1025", "1 to 1024");
     TELLS(texcache_open(&none, folder, &o[3]), TEXCACHE_BAD_OPTIONS, "handles is 1025", "1 to 1024");
     TELLS(texcache_open(&none, folder, &o[4]), TEXCACHE_BAD_OPTIONS, "autotile is 24", "a multiple of 16 up to 4096");
     TELLS(texcache_open(&none, folder, &o[5]), TEXCACHE_BAD_OPTIONS, "slots is 65537", "0 to 65536");
+    TELLS(texcache_open(&none, folder, &o[7]), TEXCACHE_BAD_OPTIONS, "tiles_per_shard is 65537", "0 to 65536");
     TELLS(texcache_open(&none, folder, &o[6]), TEXCACHE_BAD_ARGUMENT, "options", "size", "texcache_default_options");
     TELLS(texcache_open(NULL, folder, NULL), TEXCACHE_BAD_ARGUMENT, "cache is NULL");
     TELLS(texcache_open(&none, NULL, NULL), TEXCACHE_BAD_ARGUMENT, "folder is NULL");

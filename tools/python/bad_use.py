@@ -35,7 +35,7 @@ def of_caches(t, folder):
     yield lambda: t.Cache(folder, budget="64M"), TypeError, "'64M'"
     yield lambda: t.Cache(folder, shards=65), t.Refused, "shards"
     yield lambda: t.Cache(folder, shards=0), t.Refused, "shards"
-    yield lambda: t.Cache(folder, passes=17), t.Refused, "passes"
+    yield lambda: t.Cache(folder, passes=1025), t.Refused, "passes"
     yield lambda: t.Cache(folder, handles=NUMBER), ValueError, "handles"
     yield lambda: t.Cache(folder, autotile=24), t.Refused, "autotile"
     yield lambda: t.Cache(folder, slots=70000), t.Refused, "slots"

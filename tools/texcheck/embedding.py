@@ -29,9 +29,11 @@ WRAP = "-Wl,--wrap=tex_c_texture_many"
 WRAP_INPUT = "-Wl,--wrap=openat,--wrap=pread,--wrap=fstatat"
 WRAP_NAMES = "-Wl,--wrap=openat,--wrap=fstatat"
 THREADS = ("1", "8")
+MANY_THREADS = ("64", "255")
 # each test in C over an empty folder: its name, what it is about, its flags, and its arguments beside the folder
 OVER_FOLDERS = [("bad_use", "bad use and bad input", INSIDE, []),
                 ("passes", "passes, threads and forks", INSIDE, []),
+                ("large", "1023 passes, large shards and 256 threads", ["-std=c99"], []),
                 ("descriptors", "open files", INSIDE, []),
                 ("paths", "names and paths of files", ["-std=c99", WRAP_NAMES], []),
                 ("udim", "UDIM sets", ["-std=c99"], []),
@@ -94,12 +96,12 @@ class Tests:
             self.say(False, f"building {name}", text or f"status {status}")
         return status == 0
 
-    def compare(self, what, words, folder, given, wanted, threads=None, **more):
+    def compare(self, what, words, folder, given, wanted, threads=None, with_needs=True, **more):
         """Tests the answers to a list. With `threads` it also tests how many cells each thread needed."""
         status, got = said([*words, folder, *([threads] if threads else [])], given, 600, **more)
         wrong = differences(got, wanted) if status == 0 else f"status {status}: {got[-2000:]}"
         self.say(not wrong, what, wrong)
-        if threads and not wrong and needs(got) and b"<UDIM>" not in given:
+        if threads and with_needs and not wrong and needs(got) and b"<UDIM>" not in given:
             _, other = said([self.program, folder, "--workers", threads], given)
             wanted_needs, seen = needs(other), needs(got)
             self.say(seen == wanted_needs, f"{what}: the needs of each thread", f"{seen}, wanted {wanted_needs}")
@@ -118,6 +120,9 @@ class Tests:
             for name, *one in lists():
                 for threads in THREADS:
                     self.compare(f"C, {name}, {threads} threads", [self.made / "lines"], *one, threads)
+                # the program has at most 16 workers, so the needs of each thread are not compared
+                for threads in MANY_THREADS:
+                    self.compare(f"C, {name}, {threads} threads", [self.made / "lines"], *one, threads, with_needs=False)
         page = (TOP / "docs" / "EMBEDDING.md").read_text(encoding="utf-8")
         (self.made / "page.c").write_text(page.split("```c\n")[1].split("```")[0])
         if self.built("page", self.made / "page.c", "-std=c99", "-Wpedantic"):
