@@ -4,6 +4,7 @@ ghost use Rattle.shard_gate.specs.Gate.{max_budget, max_permits};
 ghost use Rattle.image_cache.specs.Options.{first_bad, first_bad_within, first_bad_large};
 ghost use Rattle.image_cache.specs.Options.{permits_of, opened_as, IsWithin};
 
+use shard_gate::{MORE_SLOTS, PINS_PER_PERMIT};
 use tex_world::NoMemory;
 use thiserror::Error;
 use tiff_format::{AUTOTILE_STEP, Cut, MAX_AUTOTILE};
@@ -82,12 +83,6 @@ const MAX_HANDLES: u32 = 1024;
 
 const MAX_TILES_PER_SHARD: u32 = 65536;
 
-/// The tiles that a shard can keep in addition to those that its passes pin.
-const MORE_TILES: u32 = 1024;
-
-/// The tiles that a pass can pin for each of its permits.
-const PINS: u32 = 7;
-
 impl Options {
     /// The number of the first option that is out of the usual range.
     pub(crate) fn first_bad(&self) -> Option<u32>
@@ -147,9 +142,9 @@ impl LargeOptions {
     pub(crate) fn opened(&self) -> Options
         ensures { result ≡ opened_as self.now }
     {
-        let more = self.tiles_per_shard.saturating_sub(MORE_TILES);
+        let more = self.tiles_per_shard.saturating_sub(MORE_SLOTS);
         Options {
-            passes: self.options.passes.max(more.div_ceil(PINS)),
+            passes: self.options.passes.max(more.div_ceil(PINS_PER_PERMIT)),
             ..self.options
         }
     }

@@ -21,3 +21,4 @@ pub use error::{NotPinned, NotUnpinned, PinError};
 pub use gate::Gate;
 pub use pin::Pin;
 pub use pin_seat::PinSeat;
+pub use rule::{MORE_SLOTS, PINS_PER_PERMIT};

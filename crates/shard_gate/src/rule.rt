@@ -24,10 +24,10 @@ pub(crate) trait BodyRule<S> {
 }
 
 /// The number of pins that a seat may hold for each of its permits.
-const PINS: u32 = 7;
+pub const PINS_PER_PERMIT: u32 = 7;
 
 /// The number of slots of a shard in addition to those that all seats together may pin.
-const MORE_SLOTS: u32 = 1024;
+pub const MORE_SLOTS: u32 = 1024;
 
 /// The parameters of a new table.
 #[derive(Drop)]
@@ -44,7 +44,7 @@ impl Terms {
         requires { self.now.passes ≤ max_permits }
         ensures { result ≡ slots_of self.now.passes }
     {
-        PINS * self.passes + MORE_SLOTS
+        PINS_PER_PERMIT * self.passes + MORE_SLOTS
     }
 }
 
