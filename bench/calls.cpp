@@ -3,7 +3,8 @@
 //
 // KIND is call (TextureSystem::texture), batch (its batches), and without OpenImageIO c (texcache_texture), many
 // (texcache_texture_many, 64 in a call) or floats (as many, by texcache_texture_results). LIST is scan (all texels of some
-// rows from left to right) or random. Prints nanoseconds of processor time for a lookup, and the sum of all values.
+// rows from left to right) or random. If NAME is that of a UDIM set, its tiles at 0 0 and 1 0 take turns. Prints
+// nanoseconds of processor time for a lookup, and the sum of all values.
 #ifdef USE_OIIO
 #    include <OpenImageIO/texture.h>
 #else
@@ -51,6 +52,16 @@ void fill(bool is_random)
         }
         s.push_back((float(x) + 0.78f) / side);
         t.push_back((float(y) + 0.78f) / side);
+    }
+}
+
+// Moves a half of the places into the next tile of a UDIM set: every other row, or any place.
+void use_tiles(bool is_random)
+{
+    std::uint64_t drawn = 1;
+    for (int i = 0; i < count; i++) {
+        drawn = drawn * 6364136223846793005u + 1442695040888963407u;
+        s[i] += float(is_random ? drawn >> 63 : i / side % 2);
     }
 }
 
@@ -127,7 +138,9 @@ int main(int number, char **words)
 {
     if (number != 6) return 2;
     std::string folder = words[1], kind = words[3];
-    fill(std::string(words[4]) == "random");
+    const bool is_random = std::string(words[4]) == "random";
+    fill(is_random);
+    if (std::string(words[2]).find("<UDIM>") != std::string::npos) use_tiles(is_random);
     long passes = std::atol(words[5]) / count;
     TextureSystem *system = TextureSystem::create(false);
     system->attribute("max_memory_MB", 256.0f);

@@ -4,8 +4,9 @@
     python3 bench/calls.py [--library FILE] [--passes N] [--lookups N]
 
 The texture is 1024 by 1024 texels in tiles of 64 by 64, all of it in the cache. The lists are two: all texels of 48 rows
-from left to right, as the benchmark's row "warm, in scan order", and random places. Kinds take turns, and the least of
-the passes counts. A time is processor time, which other work on the machine disturbs less than the clock; where perf or
+from left to right, as the benchmark's row "warm, in scan order", and random places. The UDIM set has two such textures;
+in scan order rows take turns with them, and at random places each lookup is in either. Kinds take turns, and the least
+of the passes counts. A time is processor time, which other work on the machine disturbs less than the clock; where perf or
 valgrind can count instructions, these are printed too. A ratio is OpenImageIO's time over ours. The first lines have the
 library, its version and the load of the machine: an unproved build keeps its checks at run time and is slower.
 """
@@ -22,12 +23,19 @@ from pathlib import Path
 TOP = Path(__file__).resolve().parent.parent
 sys.path.insert(0, str(TOP / "tools"))
 SIDE = 1024
-# what is measured: a name, the program, the kind, what of OpenImageIO it is compared with, and the aim
-KINDS = [("OpenImageIO, one call", "oiio", "call", None, None), ("OpenImageIO, batch of 16", "oiio", "batch", None, None),
-         ("C, one call", "ours", "c", "OpenImageIO, one call", 3), ("C, 64 in a call", "ours", "many", "OpenImageIO, one call", 4),
-         ("C, 64 in a call, floats", "ours", "floats", "OpenImageIO, one call", 4),
-         ("bridge, one call", "ours", "call", "OpenImageIO, one call", None),
-         ("bridge, batch of 64", "ours", "batch", "OpenImageIO, batch of 16", None)]
+ONE, UDIM = "t.tif", "t.<UDIM>.tif"
+# what is measured: a name, the program, the texture, the kind, what of OpenImageIO it is compared with, and the aim
+KINDS = [("OpenImageIO, one call", "oiio", ONE, "call", None, None),
+         ("OpenImageIO, batch of 16", "oiio", ONE, "batch", None, None),
+         ("OpenImageIO, UDIM, one call", "oiio", UDIM, "call", None, None),
+         ("C, one call", "ours", ONE, "c", "OpenImageIO, one call", 3),
+         ("C, 64 in a call", "ours", ONE, "many", "OpenImageIO, one call", 4),
+         ("C, 64 in a call, floats", "ours", ONE, "floats", "OpenImageIO, one call", 4),
+         ("C, UDIM, one call", "ours", UDIM, "c", "OpenImageIO, UDIM, one call", None),
+         ("C, UDIM, 64 in a call", "ours", UDIM, "many", "OpenImageIO, UDIM, one call", None),
+         ("bridge, one call", "ours", ONE, "call", "OpenImageIO, one call", None),
+         ("bridge, batch of 64", "ours", ONE, "batch", "OpenImageIO, batch of 16", None),
+         ("bridge, UDIM, one call", "ours", UDIM, "call", "OpenImageIO, UDIM, one call", None)]
 IN_PYTHON = """
 import sys, time
 import numpy, texcache
@@ -61,11 +69,13 @@ def said(*words, **more):
 
 
 def texture(folder):
-    """A texture of noise, with its levels by maketx."""
+    """A texture of noise, with its levels by maketx, and a UDIM set that has it twice."""
     source = folder / "t.ppm"
     source.write_bytes(f"P6\n{SIDE} {SIDE}\n255\n".encode() + random.Random(1).randbytes(3 * SIDE * SIDE))
     said("maketx", "-d", "uint8", "--compression", "none", "--format", "tiff", "--tile", 64, 64, "-o", folder / "t.tif", source)
     source.unlink()
+    for tile in (1001, 1002):
+        shutil.copy(folder / "t.tif", folder / f"t.{tile}.tif")
 
 
 def programs(library, made):
@@ -100,13 +110,13 @@ def measure(args, made, folder, which):
     for kind in ("scan", "random"):
         least, sums = {}, set()
         for _ in range(args.passes):
-            for name, program, call, _, _ in kinds:
-                text = said(which[program], folder, "t.tif", call, kind, args.lookups)
+            for name, program, image, call, _, _ in kinds:
+                text = said(which[program], folder, image, call, kind, args.lookups)
                 least[name] = min(float(re.search(r"ns ([\d.]+)", text)[1]), least.get(name, 1e9))
                 sums.add(round(float(re.search(r"sum ([\d.]+)", text)[1])))
         print(f"{kind}: sums {sorted(sums)}")
-        for name, program, call, beside, aim in kinds:
-            words = [str(it) for it in (which[program], folder, "t.tif", call, kind)]
+        for name, program, image, call, beside, aim in kinds:
+            words = [str(it) for it in (which[program], folder, image, call, kind)]
             count = instructions(made, words) if not args.no_instructions else None
             more = f", {count:.0f} instructions" if count else ""
             if beside in least:

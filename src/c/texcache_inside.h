@@ -259,6 +259,7 @@ TEXC_HIDDEN texc_set *texc_set_of(const texcache *cache, uint32_t number);
 TEXC_HIDDEN const char *texc_set_name(const texcache *cache, uint32_t number);
 TEXC_HIDDEN bool texc_known_tile(const texcache *cache, uint32_t number, uint32_t tile, uint32_t *file);
 TEXC_HIDDEN int texc_look_up_set(const texc_set_job *job, size_t *done, texcache_answer *answer);
+TEXC_HIDDEN void texc_enter_tile(const texcache_pass *pass, uint32_t *file, double *s, double *t);
 TEXC_HIDDEN int texc_move_to_tile(texcache_pass *pass, uint32_t *file, texcache_lookup *r, texcache_answer *answer);
 
 /* texcache_passes.c */

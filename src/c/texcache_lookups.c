@@ -184,6 +184,7 @@ TEXC_INLINE int texc_look_up(texcache_pass *pass, uint32_t file, const texcache_
 int texcache_texture(texcache_pass *pass, uint32_t file, const texcache_texture_options *options, double s, double t,
                      uint16_t *out, size_t room, texcache_answer *answer)
 {
+    if (__builtin_expect(texc_is_set(file), 0)) texc_enter_tile(pass, &file, &s, &t);
     const texcache_results results = {sizeof results, TEXCACHE_UINT16, room, out, NULL, NULL};
     const texcache_coordinates at = {&s, &t, NULL, NULL, NULL, NULL, 1};
     texcache_place place;
@@ -193,6 +194,7 @@ int texcache_texture(texcache_pass *pass, uint32_t file, const texcache_texture_
 int texcache_texture_float(texcache_pass *pass, uint32_t file, const texcache_texture_options *options, double s, double t,
                            float *out, size_t room, texcache_answer *answer)
 {
+    if (__builtin_expect(texc_is_set(file), 0)) texc_enter_tile(pass, &file, &s, &t);
     const texcache_results results = {sizeof results, TEXCACHE_FLOAT, room, out, NULL, NULL};
     const texcache_coordinates at = {&s, &t, NULL, NULL, NULL, NULL, 1};
     texcache_place place;
@@ -204,6 +206,7 @@ int texcache_texture_footprint(texcache_pass *pass, uint32_t file, const texcach
                                double t, double dsdx, double dtdx, double dsdy, double dtdy, uint16_t *out, size_t room,
                                texcache_answer *answer)
 {
+    if (__builtin_expect(texc_is_set(file), 0)) texc_enter_tile(pass, &file, &s, &t);
     const texcache_results results = {sizeof results, TEXCACHE_UINT16, room, out, NULL, NULL};
     const texcache_coordinates at = {&s, &t, &dsdx, &dtdx, &dsdy, &dtdy, 1};
     texcache_place place;
@@ -214,6 +217,7 @@ int texcache_texture_footprint_float(texcache_pass *pass, uint32_t file, const t
                                      double t, double dsdx, double dtdx, double dsdy, double dtdy, float *out, size_t room,
                                      texcache_answer *answer)
 {
+    if (__builtin_expect(texc_is_set(file), 0)) texc_enter_tile(pass, &file, &s, &t);
     const texcache_results results = {sizeof results, TEXCACHE_FLOAT, room, out, NULL, NULL};
     const texcache_coordinates at = {&s, &t, &dsdx, &dtdx, &dsdy, &dtdy, 1};
     texcache_place place;

@@ -233,13 +233,26 @@ static int texc_may_begin(texcache_pass *pass, texcache_answer *answer)
 
 /* ---- lookups */
 
-/* Splits a coordinate into its whole part and the rest. It is in range. */
+/* Splits a coordinate into its whole part and the rest. The whole part of one that is far out of range is -1. */
 static int64_t texc_split(double coordinate, double *rest)
 {
-    int64_t fine = 0;
+    int64_t fine = -1;
     texc_scaled(coordinate, TEXC_FINE, INT64_MIN, INT64_MAX, &fine);
     *rest = (double)(fine & UINT32_MAX) / TEXC_FINE;
     return (fine - (fine & UINT32_MAX)) / (INT64_C(1) << 32);
+}
+
+/* Moves one lookup in a set into its tile, if the tile's file was found before. Otherwise nothing changes, and the call
+ * goes on with the set. */
+void texc_enter_tile(const texcache_pass *pass, uint32_t *file, double *s, double *t)
+{
+    const texc_set *set = pass ? texc_set_of(pass->cache, *file) : NULL;
+    double in_s, in_t;
+    if (!set) return;
+    const int64_t u = texc_split(*s, &in_s), v = texc_split(*t, &in_t);
+    const uint32_t tile = texc_tile_of(u, v);
+    const uint32_t found = tile ? __atomic_load_n(&set->files[tile - TEXC_FIRST_TILE], __ATOMIC_RELAXED) : 0;
+    if (found) *file = found - 1, *s = in_s, *t = in_t;
 }
 
 /* Gathers the lookups from `from` on that are in one tile, at most a part. */

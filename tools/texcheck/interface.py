@@ -4,7 +4,7 @@ The list has the calls of include/texcache.h and texcache_supply.h with their ty
 places of their fields, the values of the enums, and what libtexcache.so.1 and libtexcache.a export. A change needs
 another version: the symbols of the calls that open a cache have the version in them, and so no program links with the
 structs of an older one. After VERSION was raised, --write writes the list anew. The headers must have that version.
-docs/EMBEDDING.md must say how many lines of C are trusted.
+docs/EMBEDDING.md must say how many lines of C are trusted, of each part, and which glibc the library needs.
 """
 import difflib
 import re
@@ -71,8 +71,10 @@ def found(archive):
 
 
 # the files of each line of the table in docs/EMBEDDING.md
-TABLE = (("texcache_posix.c",), ("texcache_paths.c",), ("texcache_passes.c",), ("texcache_lookups.c", "texcache_calls.c"), ("texcache_results.c", "texcache_udim.c"),
-         ("texcache_errors.c", "texcache_statistics.c"), ("texcache_inside.h", "version.c"))
+RESULTS = (("texcache_posix.c",), ("texcache_passes.c",), ("texcache_lookups.c", "texcache_calls.c"),
+           ("texcache_results.c",), ("texcache_paths.c",), ("texcache_udim.c",), ("texcache_inside.h", "version.c"))
+# on these no result depends
+REPORTS = (("texcache_errors.c", "texcache_statistics.c"),)
 
 
 def trusted():
@@ -81,15 +83,26 @@ def trusted():
                            header.without_comments(it.read_text(encoding="utf-8")).splitlines())
               for it in sorted(SOURCES.glob("*.[ch]"))}
     words = counts.pop(WORDS)
-    lines = [f"| {', '.join(f'`{it}`' for it in names)} | {sum(counts[it] for it in names)} |" for names in TABLE]
-    others = set(counts).difference(*TABLE)
-    return [f"It has {sum(counts.values())} lines of C", f"{words} lines of words", *lines, *sorted(others)]
+    table = (*RESULTS, *REPORTS)
+    total = lambda rows: sum(counts[it] for names in rows for it in names)
+    lines = [f"| {', '.join(f'`{it}`' for it in names)} | {total([names])} |" for names in table]
+    others = set(counts).difference(*table)
+    return [f"It has {total(table)} lines of C", f"Results depend on {total(RESULTS)} of them",
+            f"the other {total(REPORTS)} are for errors and statistics", f"{words} lines of words", *lines, *sorted(others)]
 
 
-def unsaid():
-    """What docs/EMBEDDING.md does not say of the C part, or says wrongly."""
-    page = (TOP / "docs" / "EMBEDDING.md").read_text(encoding="utf-8")
-    return [f"docs/EMBEDDING.md does not say: {it}" for it in trusted() if it not in page]
+def least_glibc(archive):
+    """The oldest glibc with which the shared library runs, as it is linked here."""
+    with tempfile.TemporaryDirectory() as room:
+        shared(archive, Path(room) / SHARED)
+        found = re.findall(rb"GLIBC_(\d+)\.(\d+)", (Path(room) / SHARED).read_bytes())
+    return "glibc {}.{} or later".format(*max((int(a), int(b)) for a, b in found))
+
+
+def unsaid(archive):
+    """What docs/EMBEDDING.md does not say of the library, or says wrongly."""
+    page = " ".join((TOP / "docs" / "EMBEDDING.md").read_text(encoding="utf-8").split())
+    return [f"docs/EMBEDDING.md does not say: {it}" for it in (*trusted(), least_glibc(archive)) if it not in page]
 
 
 def listed():
@@ -124,10 +137,11 @@ def run(args):
     lacking = next((it for it in ("cc", "nm") if not shutil.which(it)), None)
     if skips.lacks(lacking, "interface"):
         return 1 if skips.failed else 0
-    now, before = found(archive_of(args.library)), listed()
+    archive = archive_of(args.library)
+    now, before = found(archive), listed()
     if args.write and now[:1] != before[:1]:
         LIST.write_text(HEAD + "\n".join(now) + "\n", encoding="ascii")
         before = now
-    wrong = faults(now, before or [""]) + unsaid()
+    wrong = faults(now, before or [""]) + unsaid(archive)
     print(*wrong, f"interface: {len(now)} lines {'differ from the list' if wrong else 'are as the list says'}", sep="\n")
     return 1 if wrong else 0

@@ -15,11 +15,12 @@ from math import floor
 import numpy
 
 from served import Blocks, Formula, Plain, Smooth, Viewer, pixels, replace, until
+from texcheck.tiff import LITTLE, LONG, LONG8, MARKS, SHORT, WIDE, directory
 
 FILES = [Formula("rgb.tif", 700, 500, 3, 8, 64), Formula("deep.tif", 300, 200, 3, 16, 64),
          Formula("four.tif", 100, 37, 4, 8, 16), Formula("two.tif", 64, 64, 2, 8, 32), Formula("grey.tif", 1000, 30, 1, 16, 32)]
 SMOOTH, BLOCKS = Smooth("smooth.tif", 512, 512, 3, 8, 64), Blocks("blocks.tif", 128, 64, 3, 8, 64, levels=1)
-ODD = Formula("a b#ü%.tif", 40, 30, 3, 8, 16)
+ODD, SAMPLES = Formula("a b#ü%.tif", 40, 30, 3, 8, 16), Formula("samples.tif", 4096, 2048, 1, 8, 64, levels=1)
 ODD_ID = "a%20b%23%C3%BC%25.tif"
 # a name that is no UTF-8
 BYTES = Formula(os.fsdecode(b"odd\xff.tif"), 40, 30, 3, 8, 16)
@@ -108,6 +109,52 @@ def tiles(tests, viewer):
         tests.say(is_so, f"the thumbnail of {texture.name}", found.shape)
 
 
+def large_strips(path):
+    """A file of one level, 16384 by 16384 texels in strips of a row. 64 rows in turn are the same bytes of the file, which
+    has 4 MB. Returns the value of a texel."""
+    side, form = 16384, WIDE[LITTLE]
+
+    def value(x, y):
+        return (x // 5 + 3 * (y // 64)) % 256
+
+    def fields(offsets):
+        return [(256, LONG, [side]), (257, LONG, [side]), (258, SHORT, [8]), (259, SHORT, [1]), (262, SHORT, [1]),
+                (273, LONG8, offsets), (277, SHORT, [1]), (278, LONG, [1]), (279, LONG, [side] * side)]
+
+    first = 16 + len(directory(LITTLE, form, fields([0] * side), 16, 0))
+    with open(path, "wb") as file:
+        file.write(MARKS[LITTLE] + b"\x2b\0" + form.behind + (16).to_bytes(8, "little"))
+        file.write(directory(LITTLE, form, fields([first + side * (y // 64) for y in range(side)]), 16, 0))
+        for y in range(0, side, 64):
+            file.write(value(numpy.arange(side), y).astype("u1").tobytes())
+    return value
+
+
+def samples(tests, viewer):
+    """Thumbnails of large files with one level show nearest texels, within about a second."""
+    texture, value = SAMPLES, large_strips(tests.folder / "strips.tif")
+    columns, rows = numpy.meshgrid(16 * numpy.arange(256) + 8, 16 * numpy.arange(128) + 8)
+    found, _ = viewer.image("/thumb/samples.tif")
+    tests.say(viewer.json("/api/file/samples.tif")["sampled"] and not viewer.json("/api/file/rgb.tif")["sampled"]
+              and not viewer.json("/api/file/blocks.tif")["sampled"], "the facts say which thumbnails are samples")
+    tests.say(found.shape == (128, 256, 1) and (found[:, :, 0] == texture.whole(0)[rows, columns, 0]).all(),
+              "a thumbnail of samples, of a file in tiles", found.shape)
+    replace(tests.folder, Formula("samples.tif", 4096, 2048, 1, 8, 64, levels=1, seed=9))
+    found, generation = viewer.image("/thumb/samples.tif")
+    tests.say((found[:, :, 0] == (texture.whole(0)[rows, columns, 0] + 9) % 256).all() and generation == 2,
+              "and of the file that replaces it", generation)
+    # the viewer knows the files that were there when it began
+    with tests.viewer() as other:
+        began = time.monotonic()
+        found, _ = other.image("/thumb/strips.tif")
+        took, memory = time.monotonic() - began, other.memory() >> 20
+        # 128 by 128 samples for 256 by 256 pixels
+        at = 128 * (numpy.arange(256) // 2) + 64
+        tests.say((found[:, :, 0] == value(at[None, :], at[:, None])).all(), "of a file in strips, with half as many samples", found[:4, :4, 0])
+        tests.say(took < 5 and memory < 250, f"16384 by 16384 texels of one level: {took:.2f} s, {memory} MB", (took, memory))
+    (tests.folder / "strips.tif").unlink()
+
+
 def values(tests, viewer):
     drawn, wrong = random.Random("values"), []
     for n in range(200):
@@ -129,7 +176,7 @@ def values(tests, viewer):
 
 def facts(tests, viewer):
     found = {it["name"]: it for it in viewer.json("/api/files")["files"]}
-    tests.say(set(found) == {it.name for it in (*FILES, SMOOTH, BLOCKS, ODD, BYTES)} | {"text.tif", "secret.tif"}, "the files", list(found))
+    tests.say(set(found) == {it.name for it in (*FILES, SMOOTH, BLOCKS, ODD, BYTES, SAMPLES)} | {"text.tif", "secret.tif"}, "the files", list(found))
     it = found["deep.tif"]
     tests.say([it[key] for key in ("width", "height", "channels", "depth", "stored", "levels")] == [300, 200, 3, 16, 9, 9],
               "facts of a file", it)
@@ -374,7 +421,7 @@ def command(tests):
 
 def run(tests):
     folder = tests.folder
-    for it in (*FILES, SMOOTH, BLOCKS, ODD, BYTES):
+    for it in (*FILES, SMOOTH, BLOCKS, ODD, BYTES, SAMPLES):
         it.write(folder)
     FILES[3].__class__("secret.tif", 32, 32, 1, 8, 16).write(folder)
     (folder / "text.tif").write_text("this is no image")
@@ -385,7 +432,7 @@ def run(tests):
     (folder / "sub").mkdir()
     FILES[3].__class__("inner.tif", 32, 32, 1, 8, 16).write(folder / "sub")
     with tests.viewer() as viewer:
-        for step in (facts_after_use, tiles, values, facts, iiif):
+        for step in (facts_after_use, tiles, values, facts, iiif, samples):
             step(tests, viewer)
         bad_paths(tests, viewer, secret)
         tests.say(viewer.get("/thumb/rgb.tif")[0] == 200, "it still answers")

@@ -27,6 +27,10 @@ TRIES = 32           # how often a request begins again if its file is replaced 
 MOST = 1 << 20       # texels of one region, the library's limit
 THUMBNAIL = 256      # the longer side of a thumbnail
 BLOCK = 128          # the side of what is looked up at once in a scaled image
+LARGE = 1 << 22      # texels of the smallest stored level, from which on a thumbnail shows samples of it
+SAMPLED = 1 << 28    # bytes that samples may read, each cell with CELL more: about half a second
+CELL = 12288
+SMALLEST = 16        # the side of the cells of a file in strips, while samples of it are read
 WRAPS = {"black": BLACK, "clamp": CLAMP, "periodic": PERIODIC, "mirror": MIRROR}
 REMEDY = " What helps: "
 # the statuses of texcache.h for a file that the library does not accept
@@ -54,6 +58,21 @@ Places = Callable[[Info], Tuple[Any, Any]]
 
 def level_size(info: Info, level: int) -> Tuple[int, int]:
     return max(1, info.width >> level), max(1, info.height >> level)
+
+
+def thumbnail_level(info: Info) -> int:
+    """The largest level that fits into a thumbnail; the file may have fewer."""
+    level = 0
+    while max(level_size(info, level)) > THUMBNAIL:
+        level += 1
+    return level
+
+
+def is_sampled(info: Info) -> bool:
+    """Whether a thumbnail shows single texels of the smallest stored level, because making the level that fits would read
+    all of a large file."""
+    wide, high = level_size(info, info.stored - 1)
+    return thumbnail_level(info) >= info.stored and wide * high >= LARGE
 
 
 def folded(place: Any, wrap: str) -> Any:
@@ -193,7 +212,7 @@ class Folder:
             return {**found, **in_words(refused), "generation": refused.answer.generation}
         sizes = [level_size(info, it) for it in range(info.levels)]
         return {**found, "width": info.width, "height": info.height, "channels": info.channels, "depth": info.depth,
-                "stored": info.stored, "levels": info.levels, "sizes": sizes,
+                "stored": info.stored, "levels": info.levels, "sizes": sizes, "sampled": is_sampled(info),
                 "generation": textures.answer.generation}
 
     def statistics(self, textures: Pass) -> Dict[str, Any]:
@@ -235,11 +254,12 @@ class Folder:
         raise Busy("the file is replaced each time it is read; try again")
 
     def thumbnail(self, textures: Pass, number: int) -> Texels:
-        """The largest level that fits, or a scaled image if no level does."""
+        """The largest level that fits, or a scaled image if no level does. Of a large file that would have to be read as a
+        whole it is samples."""
         info = textures.info(number)
-        level = 0
-        while max(level_size(info, level)) > THUMBNAIL:
-            level += 1
+        level = thumbnail_level(info)
+        if is_sampled(info):
+            return self.samples(textures, number)
         if level >= info.levels:
             return self.scaled(textures, number, lambda it: (*level_size(it, level), it.levels - 1))
 
@@ -249,6 +269,22 @@ class Folder:
             return (numpy.arange(wide) + 0.5) / wide, (numpy.arange(high) + 0.5) / high
 
         return self.texels(textures, number, level, places, "clamp")
+
+    def samples(self, textures: Pass, number: int) -> Texels:
+        """Nearest texels of the smallest stored level, at the middles of the thumbnail's pixels."""
+        for _ in range(TRIES):
+            textures.invalidate(number)
+            info = textures.info(number)
+            generation = textures.answer.generation
+            # in a cache of its own, cells of files in strips can be small, and nothing else loses its tiles
+            with Cache(self.path, budget=1 << 26, shards=1, passes=2, autotile=SMALLEST, automip=False, refuse_links=True) as cache:
+                with cache.new_pass() as own:
+                    values = _sampled(own, cache.find(self.names[number]), info)
+            # if the file was not replaced meanwhile, that cache read this version too
+            textures.invalidate(number)
+            if textures.answer.generation == generation:
+                return Texels(values, info, generation)
+        raise Busy("the file is replaced each time it is read; try again")
 
     # ---- replaced files
 
@@ -281,33 +317,33 @@ class Folder:
                     self.events.add("trouble", {"reason": str(refused)})
 
     def _replaced(self, textures: Pass, number: int, found: Optional[Tuple[int, ...]]) -> None:
-        before, self.stamps[number] = self.stamps[number], found
+        self.stamps[number] = found
         try:
-            if before and found and before[:2] == found[:2]:
-                self._reopened(textures, number)
-            else:
-                textures.invalidate(number)
+            textures.invalidate(number)
         except Refused:
             # the facts say what is wrong
             pass
         self.events.add("file", self.facts(textures, number))
 
-    def _reopened(self, textures: Pass, number: int) -> None:
-        """Opens a new file that has the size and the time of the old one, which are all that the library compares. Its
-        generation stays. So no request may run meanwhile, and the tiles that passes keep have to go first."""
-        held: List[Pass] = []
-        try:
-            for _ in range(PASSES):
-                held.append(self.passes.get(WAIT))
-                # whatever comes, this call gives up the pass's two latest tiles
-                held[-1].invalidate(number)
-            textures.invalidate(number, force=True)
-        except queue.Empty:
-            # the next round tries again
-            self.stamps[number] = None
-        finally:
-            for it in held:
-                self.passes.put(it)
+
+def _sampled(textures: Pass, number: int, info: Info) -> Any:
+    """The values of a thumbnail, each that of a nearest texel of the smallest stored level. If samples for all pixels would
+    read too much there are fewer, and neighbours share one."""
+    level = info.stored - 1
+    textures.get_tile(number, level, 0, 0)
+    cell = textures.tile_at(0)
+    textures.release_tile(0)
+    cost = cell.w * cell.h * info.channels * info.depth // 8 + CELL
+    across, down = (-(-it // n) for it, n in zip(level_size(info, level), (cell.w, cell.h)))
+    wide, high = level_size(info, thumbnail_level(info))
+    for part in (64, 48, 32, 24, 16, 12, 8, 4, 2, 1):
+        columns, rows = max(1, wide * part // 64), max(1, high * part // 64)
+        if min(columns, across) * min(rows, down) * cost <= SAMPLED:
+            break
+    s, t = numpy.meshgrid((numpy.arange(columns) + 0.5) / columns, (numpy.arange(rows) + 0.5) / rows)
+    values = textures.texture(number, s, t, lod=float(level), swrap=CLAMP, twrap=CLAMP, filter=CLOSEST,
+                              channels=min(info.channels, 8))
+    return values[numpy.arange(high) * rows // high][:, numpy.arange(wide) * columns // wide]
 
 
 def _scaled(textures: Pass, number: int, values: Any, level: float) -> Iterator[int]:

@@ -30,7 +30,7 @@ function fill(card, file) {
   made('small', `${file.width} x ${file.height}, ${file.depth} bits, ${file.channels} channels`, card);
   made('small', `${levels}; generation ${file.generation}`, card);
   // a level that is generated reads all of the levels below it
-  if (file.stored < file.levels && file.width * file.height > 4e6) made('small', 'slow: texmake would store its levels', card);
+  if (file.sampled) made('small', 'thumbnail of single texels; slow when zoomed out: texmake would store its levels', card);
 }
 
 async function all() {
