@@ -8,7 +8,7 @@ use Rattle.tiff_format.specs.Texel.{greatest_sample}
 use Rattle.tiff_format.specs.declared.cut.Cut.{Cut}
 use Rattle.tiff_format.specs.declared.rect.Rect.{Rect}
 use Rattle.tex_world.specs.World.{Files}
-use Rattle.tile_layout.specs.Cell.{channels_in, bit_depth_of}
+use Rattle.tile_layout.specs.Cell.{channels_in, bit_depth_in, bit_depth_of}
 use Rattle.tile_layout.specs.Kept.{Kept, kept_of, stored_count}
 use Rattle.tile_layout.specs.Key.{generation_of, file_of, level_of}
 use Rattle.tile_layout.specs.Level.{width_in, height_in}
@@ -55,8 +55,8 @@ module _ (layout : Kept) (cut : Cut) (key : ℕ) (is : IsHalvedKey layout cut ke
       (rect_is : tile.rect ≡ part_rect layout cut key is k below)
       (channels_is : tile.channels ≡ n) (old new : List ℕ)
       (few : cell.w * cell.h * n ≤ max_cell_samples) (long : length old ≡ cell.w * cell.h * n)
-      (halves : HalvesRows (part_rect layout cut key is k below) cell n tile.texels 0
-      (halved (part_rect layout cut key is k below).h) old new) where
+      (halves : HalvesRows (part_rect layout cut key is k below) cell n tile.texels
+      (greatest_sample (bit_depth_in layout)) 0 (halved (part_rect layout cut key is k below).h) old new) where
     abbrev part : Rect
     part = part_rect layout cut key is k below
 
@@ -78,13 +78,24 @@ module _ (layout : Kept) (cut : Cut) (key : ℕ) (is : IsHalvedKey layout cut ke
         let are = source_texels bytes of in
         let level = level_of key in
         let most = greatest_sample (bit_depth_of bytes) in
+        let made_low : HalvesRows part cell n tile.texels most 0 (halved part.h) old new =
+        subst (λ (file : Kept). HalvesRows part cell n tile.texels
+        (greatest_sample (bit_depth_in file)) 0 (halved part.h) old new) made.kept halves in
         let generated : stored_count (kept_of bytes) ≤ level =
         subst (λ (file : Kept). stored_count file ≤ level) made.kept is.generated in
+        let low : (c : ℕ) → c < n → (a b : ℕ)
+        → quarter (λ x y. sample_on part.w n tile.texels x y c) part.w part.h a b ≤ most =
+        λ c channel a b.
+        quarter_low part place.wide place.high (λ x y. sample_on part.w n tile.texels x y c) most
+        a b
+        (part_low most part n tile.texels are.count
+        (λ q q_in. All-get_or (λ s. s ≤ most) tile.texels q 0 q_in of.low) c channel) in
         record {
           kept = made.kept;
           each = λ i j c across down channel at.
-              by_cases part cell n place tile.texels old new halves
+              by_cases part cell n place tile.texels old new most made_low
               (λ s. s ≡ texel_at bytes level (cell.x + i) (cell.y + j) c) i j c across down channel
+              (low c channel)
               (λ apart. elim (cases_lt (part_at layout cut key (cell.x + i) (cell.y + j)) k) [
                 | inl before ↦ made.each i j c across down channel before
                 | inr behind ↦
@@ -116,15 +127,11 @@ module _ (layout : Kept) (cut : Cut) (key : ℕ) (is : IsHalvedKey layout cut ke
           low = All-from_get_or (λ s. s ≤ most) new 0
               (all_samples (λ s. s ≤ most) cell.w cell.h n new (halves.long ∙ long)
               (λ i j c across down channel.
-              by_cases part cell n place tile.texels old new halves (λ s. s ≤ most) i j c across down
-              channel
+              by_cases part cell n place tile.texels old new most made_low (λ s. s ≤ most) i j c
+              across down channel (low c channel)
               (λ apart. All-get_or (λ s. s ≤ most) old ((j * cell.w + i) * n + c) 0
               (omega (arith, long, place_below cell.w cell.h n i j c across down channel)) made.low)
-              (λ a b a_in b_in x_is y_is.
-              quarter_low part place.wide place.high (λ x y. sample_on part.w n tile.texels x y c) most
-              a b
-              (part_low most part n tile.texels are.count
-              (λ q q_in. All-get_or (λ s. s ≤ most) tile.texels q 0 q_in of.low) c channel))));
+              (λ a b a_in b_in x_is y_is. low c channel a b)));
         }
 
     pub told_more : (files : Files) → ToldBy files key (λ bytes. IsHalfMade bytes layout cut key k old)

@@ -114,9 +114,10 @@ all_samples P w h n samples long each k below =
 -- ---- the samples of a cell, after half of a part was written
 
 module _ (part cell : Rect) (n : ℕ) (is : IsPartPlace part cell n) (source old new : List ℕ)
-    (halves : HalvesRows part cell n source 0 (halved part.h) old new) where
+    (most : ℕ) (halves : HalvesRows part cell n source most 0 (halved part.h) old new) where
   -- the samples are either those of before, of texels that the part does not make, or made of it
   pub by_cases : (P : ℕ → Type 0) (i j c : ℕ) → i < cell.w → j < cell.h → c < n
+      → ((a b : ℕ) → quarter (λ x y. sample_on part.w n source x y c) part.w part.h a b ≤ most)
       → ((part.x / 2 ≤ cell.x + i → cell.x + i < part.x / 2 + halved part.w
       → part.y / 2 ≤ cell.y + j → cell.y + j < part.y / 2 + halved part.h → ⊥)
       → P (sample_on cell.w n old i j c))
@@ -124,7 +125,7 @@ module _ (part cell : Rect) (n : ℕ) (is : IsPartPlace part cell n) (source old
       → cell.x + i ≡ part.x / 2 + a → cell.y + j ≡ part.y / 2 + b
       → P (quarter (λ x y. sample_on part.w n source x y c) part.w part.h a b))
       → P (sample_on cell.w n new i j c)
-  by_cases P i j c across down channel outside inside =
+  by_cases P i j c across down channel low outside inside =
       let left = left_of part cell in
       let top = top_of part cell in
       let from_left = is.left in
@@ -148,7 +149,7 @@ module _ (part cell : Rect) (n : ℕ) (is : IsPartPlace part cell n) (source old
                   let b : ℕ = j - top in
                   let i_is : left + a ≡ i = omega arith in
                   let j_is : top + b ≡ j = omega arith in
-                  let made = halves.made a b c (omega arith) (omega arith) (omega arith) channel in
+                  let made = halves.made a b c (omega arith) (omega arith) (omega arith) channel (low a b) in
                   let here : sample_on cell.w n new i j c
                   ≡ quarter (λ x y. sample_on part.w n source x y c) part.w part.h a b =
                   ap (λ (q : ℕ). sample_on cell.w n new q j c) (sym i_is)

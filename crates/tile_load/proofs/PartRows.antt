@@ -7,6 +7,7 @@ use Rattle.tiff_format.specs.Level.{halved}
 use Rattle.tiff_format.specs.declared.rect.Rect.{Rect}
 use Rattle.tile_layout.specs.Texel.{average, clamped, quarter}
 use Rattle.tile_store.specs.Tile.{CachedTile, AreSamples}
+use Rattle.tile_load.specs.CellSamples.{PutsRow}
 use Rattle.tile_load.specs.PartPlace.{IsPartPlace, HalvesRows, left_of, top_of, sample_on}
 use Rattle.half_rows.specs.Quarters.{row_sample, row_average}
 
@@ -110,6 +111,23 @@ row_quarter part n source top bottom j some above below i c channel =
     (sample_on part.w n source left (clamped part.h (2 * j + 1)) c) k)
     (below right c right_in channel)
 
+-- the averages of two rows of a tile are those of four texels of its part
+pub rows_average : (tile : CachedTile) (part : Rect) (n j above below : ℕ) (top bottom : List ℕ)
+    → 1 ≤ part.w → tile.rect ≡ part → tile.channels ≡ n
+    → above ≡ clamped part.h (2 * j) → below ≡ clamped part.h (2 * j + 1)
+    → AreSamples tile part.x (part.y + above) part.w top
+    → AreSamples tile part.x (part.y + below) part.w bottom
+    → (i c : ℕ) → c < n
+    → row_average n top bottom (clamped part.w (2 * i)) (clamped part.w (2 * i + 1)) c
+    ≡ quarter (λ x y. sample_on part.w n tile.texels x y c) part.w part.h i j
+rows_average tile part n j above below top bottom some rect_is channels_is above_is below_is top_are
+    bottom_are =
+    row_quarter part n tile.texels top bottom j some
+    (row_kept tile part n (clamped part.h (2 * j)) top rect_is channels_is
+    (subst (λ (r : ℕ). AreSamples tile part.x (part.y + r) part.w top) above_is top_are))
+    (row_kept tile part n (clamped part.h (2 * j + 1)) bottom rect_is channels_is
+    (subst (λ (r : ℕ). AreSamples tile part.x (part.y + r) part.w bottom) below_is bottom_are))
+
 -- ---- rows that are written
 
 module _ (part cell : Rect) (n : ℕ) (is : IsPartPlace part cell n) where
@@ -132,14 +150,16 @@ module _ (part cell : Rect) (n : ℕ) (is : IsPartPlace part cell n) where
       let bottom = is.bottom in
       ends_within (t_of j) cell.w (left_of part cell) (halved part.w) n fits_in cell.h (omega arith)
 
-  module _ (source : List ℕ) where
+  module _ (source : List ℕ) (most : ℕ) where
     -- one row is written
     pub row_written : (j : ℕ) (old new : List ℕ) → length new ≡ length old
         → ((k : ℕ) → k < start_of j → slice_index new k ≡ slice_index old k)
-        → ((i c : ℕ) → i < halved part.w → c < n → slice_index new (start_of j + (i * n + c))
+        → ((i c : ℕ) → i < halved part.w → c < n
+        → quarter (λ x y. sample_on part.w n source x y c) part.w part.h i j ≤ most
+        → slice_index new (start_of j + (i * n + c))
         ≡ quarter (λ x y. sample_on part.w n source x y c) part.w part.h i j)
         → ((k : ℕ) → start_of j + halved part.w * n ≤ k → slice_index new k ≡ slice_index old k)
-        → HalvesRows part cell n source j (j + 1) old new
+        → HalvesRows part cell n source most j (j + 1) old new
     row_written j old new same before each behind =
         let t = t_of j in
         let left = left_of part cell in
@@ -148,10 +168,11 @@ module _ (part cell : Rect) (n : ℕ) (is : IsPartPlace part cell n) where
           long = same;
           made = λ i q c across from to channel.
               let is_j : j ≡ q = omega arith in
-              subst (λ (q : ℕ). sample_on cell.w n new (left + i) (top_of part cell + q) c
+              subst (λ (q : ℕ). quarter (λ x y. sample_on part.w n source x y c) part.w part.h i q
+              ≤ most → sample_on cell.w n new (left + i) (top_of part cell + q) c
               ≡ quarter (λ x y. sample_on part.w n source x y c) part.w part.h i q) is_j
-              (ap (slice_index new) (place_in_row t cell.w left hw n fits_in i c)
-              ∙ each i c across channel);
+              (λ low. ap (slice_index new) (place_in_row t cell.w left hw n fits_in i c)
+              ∙ each i c across channel low);
           above = λ i q c across down channel up.
               before ((q * cell.w + i) * n + c)
               (before_row t cell.w left hw n fits_in i q c across channel up);
@@ -182,11 +203,27 @@ module _ (part cell : Rect) (n : ℕ) (is : IsPartPlace part cell n) where
               ];
         }
 
+    -- one row is written a byte each, from a row of its own
+    pub row_narrowed : (j : ℕ) (row old new : List ℕ) → most ≤ 255
+        → length row ≡ halved part.w * n
+        → PutsRow row (start_of j) old new
+        → ((i c : ℕ) → i < halved part.w → c < n → slice_index row (i * n + c)
+        ≡ quarter (λ x y. sample_on part.w n source x y c) part.w part.h i j)
+        → HalvesRows part cell n source most j (j + 1) old new
+    row_narrowed j row old new small count puts each =
+        row_written j old new puts.long puts.before
+        (λ i c across channel low.
+        let is = each i c across channel in
+        puts.each (i * n + c)
+        (omega (arith, count, mul-add-lt i n c (halved part.w) across channel))
+        (omega (arith, is)) ∙ is)
+        (λ k far. puts.behind k (omega (arith, count)))
+
     -- none is
-    pub no_rows : (old : List ℕ) → HalvesRows part cell n source 0 0 old old
+    pub no_rows : (old : List ℕ) → HalvesRows part cell n source most 0 0 old old
     no_rows old = record {
       long = refl;
-      made = λ i j c across from to channel. absurd (omega arith);
+      made = λ i j c across from to channel low. absurd (omega arith);
       above = λ i j c across down channel up. refl;
       below = λ i j c across down channel under. refl;
       before = λ i j c across down channel first. refl;
@@ -195,9 +232,9 @@ module _ (part cell : Rect) (n : ℕ) (is : IsPartPlace part cell n) where
 
     -- one more row after others
     pub row_more : (j : ℕ) (old mid new : List ℕ) → j < halved part.h
-        → HalvesRows part cell n source 0 j old mid
-        → HalvesRows part cell n source j (j + 1) mid new
-        → HalvesRows part cell n source 0 (j + 1) old new
+        → HalvesRows part cell n source most 0 j old mid
+        → HalvesRows part cell n source most j (j + 1) mid new
+        → HalvesRows part cell n source most 0 (j + 1) old new
     row_more j old mid new row some more =
         let left = left_of part cell in
         let top = top_of part cell in
@@ -207,12 +244,12 @@ module _ (part cell : Rect) (n : ℕ) (is : IsPartPlace part cell n) where
         let bottom_high = is.bottom in
         record {
           long = more.long ∙ some.long;
-          made = λ i q c across from to channel.
+          made = λ i q c across from to channel low.
               elim (cases_lt q j) [
                 | inl earlier ↦
                     more.above (left + i) (top + q) c (omega arith) (omega arith) channel (omega arith)
-                    ∙ some.made i q c across from earlier channel
-                | inr last ↦ more.made i q c across last to channel
+                    ∙ some.made i q c across from earlier channel low
+                | inr last ↦ more.made i q c across last to channel low
               ];
           above = λ i q c across down channel up.
               more.above i q c across down channel (omega arith)

@@ -1,22 +1,25 @@
 -- What is known of a cell that is being made of its parts?
-use Rattle.std.specs.Prelude.{◌≡◌, ℕ, ◌+◌, ◌-◌, ◌*◌, ◌<◌, ◌≤◌, min, List}
+use Rattle.std.specs.Prelude.{◌≡◌, ℕ, ◌+◌, ◌-◌, ◌*◌, ◌<◌, ◌≤◌, min, List, length}
 use Rattle.tex_world.specs.World.{Files}
 use Rattle.tiff_format.specs.Level.{halved}
 use Rattle.tiff_format.specs.Limits.{max_side}
 use Rattle.tiff_format.specs.declared.cut.Cut.{Cut}
 use Rattle.tile_layout.specs.declared.grid.Grid.{Grid}
 use Rattle.tiff_format.specs.declared.rect.Rect.{Rect}
-use Rattle.tile_layout.specs.Cell.{channels_in, bit_depth_of, cell_count}
+use Rattle.tile_layout.specs.Cell.{channels_in, bit_depth_in, bit_depth_of, cell_count}
 use Rattle.tile_layout.specs.CutSide.{IsCellSide, max_cells}
 use Rattle.tile_layout.specs.Grid.{shown_grid}
 use Rattle.tile_layout.specs.Kept.{Kept, kept_of, stored_count}
 use Rattle.tile_layout.specs.Key.{level_of, IsKey}
 use Rattle.tile_layout.specs.Texel.{texel_at, FitDepth}
+use Rattle.rect_read.specs.declared.texels.RectSamples.{RectSamples}
+use Rattle.rect_read.specs.RectSamples.{samples_of}
 use Rattle.tile_store.specs.Tile.{cached_tile, IsTile}
 use Rattle.tile_store.specs.Told.{ToldBy}
 use Rattle.tile_load.specs.declared.part_span.PartSpan.{PartSpan}
 use Rattle.tile_load.specs.Halving.{source_cut, rect_of, source_cell}
 use Rattle.tile_load.specs.Halving.{first_column, part_columns, first_row, part_rows, part_count}
+use Rattle.tile_load.specs.CellSamples.{sample_bits}
 use Rattle.tile_load.specs.PartPlace.{sample_on}
 
 -- the index of the part that holds the first source texel of texel (x, y)
@@ -72,12 +75,15 @@ pub record AreSpans (layout : Kept) (cut : Cut) (key : ℕ) (across down : PartS
 
 -- what is true of the fields of a cell that is being made
 pub record IsHalving (files : Files) (layout : Kept) (cut : Cut) (key done : ℕ) (source : Grid)
-    (across down : PartSpan) (rect : Rect) (channels : ℕ) (samples : List ℕ) : Type 0 where
+    (across down : PartSpan) (rect : Rect) (channels : ℕ) (scratch : List ℕ) (samples : RectSamples)
+    : Type 0 where
   pub cell : IsHalvedKey layout cut key
   pub rect_is : rect ≡ rect_of layout cut key
   pub source_is : shown_grid source ≡ source_cut layout cut key
   pub spans : AreSpans layout cut key across down
   pub channels_is : channels ≡ channels_in layout
   pub done_few : done ≤ part_count layout cut key
-  pub tile : IsTile (cached_tile key rect channels samples)
-  pub told : ToldBy files key (λ bytes. IsHalfMade bytes layout cut key done samples)
+  pub room : length scratch ≡ rect.w * channels
+  pub depth : sample_bits samples ≡ bit_depth_in layout
+  pub tile : IsTile (cached_tile key rect channels (samples_of samples))
+  pub told : ToldBy files key (λ bytes. IsHalfMade bytes layout cut key done (samples_of samples))

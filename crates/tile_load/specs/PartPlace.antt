@@ -35,12 +35,13 @@ top_of part cell = part.y / 2 - cell.y
 abbrev pub sample_on : ℕ → ℕ → List ℕ → ℕ → ℕ → ℕ → ℕ
 sample_on w n samples i j c = slice_index samples ((j * w + i) * n + c)
 
--- Rows `from` to `to` of the halved part were made from the part's samples; all other samples of
--- the cell are unchanged.
-pub record HalvesRows (part cell : Rect) (n : ℕ) (source : List ℕ) (from to : ℕ)
+-- Rows `from` to `to` of the halved part were made from the part's samples, except where a sample
+-- would be greater than `most`; all samples of the cell outside of these rows are unchanged.
+pub record HalvesRows (part cell : Rect) (n : ℕ) (source : List ℕ) (most from to : ℕ)
     (old new : List ℕ) : Type 0 where
   pub long : length new ≡ length old
   pub made : (i j c : ℕ) → i < halved part.w → from ≤ j → j < to → c < n
+      → quarter (λ x y. sample_on part.w n source x y c) part.w part.h i j ≤ most
       → sample_on cell.w n new (left_of part cell + i) (top_of part cell + j) c
       ≡ quarter (λ x y. sample_on part.w n source x y c) part.w part.h i j
   pub above : (i j c : ℕ) → i < cell.w → j < cell.h → c < n → j < top_of part cell + from

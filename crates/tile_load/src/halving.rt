@@ -6,22 +6,28 @@ ghost use Rattle.tiff_format.specs.Cut.{IsCut};
 ghost use Rattle.tile_load.specs.CellTile.{IsCellTile};
 ghost use Rattle.tile_load.specs.Halving.{part_count, part_key, IsPartOf, NamesGenerated};
 ghost use Rattle.tile_load.specs.Halving.{halving_state};
+ghost use Rattle.tile_load.specs.CellSamples.{sample_bits};
 ghost use Rattle.tile_load.specs.PartPlace.{max_cell_samples};
+ghost use Rattle.tiff_format.specs.Facts.{IsDepth};
+ghost use Rattle.rect_read.specs.RectSamples.{samples_of};
 ghost use Rattle.rect_read.specs.Zeros.{AreZeros};
 ghost use Rattle.tile_store.specs.Told.{IsTold};
 
 use crate::halve_part::halve_part;
 use crate::loading::tile_of;
-use crate::narrow::kept_samples;
 use crate::part_place::PartPlace;
 use crate::part_span::PartSpan;
 use file_table::Record;
+use rect_read::RectSamples;
 use std::alloc::{AllocError, Global};
 use std::marker::{Model, PhantomData};
 use tex_world::{NoMemory, World};
 use tiff_format::{Cut, Rect};
 use tile_layout::{Grid, Layout, TileKey};
 use tile_store::Tile;
+
+/// The bits of a sample that takes one byte.
+const BYTE_DEPTH: u32 = 8;
 
 /// The tile of a generated level's cell while it is being made. Its parts, up to four cells of the
 /// next larger level, are added one after another in order.
@@ -41,7 +47,9 @@ pub struct Halving<'a, W: World> {
     down: PartSpan,
     rect: Rect,
     channels: u32,
-    samples: Vec<u16>,
+    /// Room for a row of 16-bit samples, which an 8-bit cell narrows to bytes.
+    scratch: Vec<u16>,
+    samples: RectSamples,
     world: PhantomData<W>,
 }
 
@@ -54,11 +62,12 @@ impl<'a, W: World> Model for Halving<'a, W> {
     ghost view = { λ a. halving_state a.layout.now a.cut a.key a.done };
 
     ghost invariant = { λ a. IsHalving W.files a.layout.now a.cut a.key a.done a.source a.across
-        a.down a.rect a.channels a.samples.items };
+        a.down a.rect a.channels a.scratch.items a.samples };
 }
 
 impl<'a, W: World> Halving<'a, W> {
-    /// Begins the cell of a generated level, without any part. Allocates the whole tile.
+    /// Begins the cell of a generated level, without any part. Allocates the whole tile, for an
+    /// 8-bit file with one byte per sample.
     pub fn new(
         alloc: Global,
         known: &'a Record<W>,
@@ -83,7 +92,8 @@ impl<'a, W: World> Halving<'a, W> {
         let source = layout.grid(level - 1, cut);
         let rect = layout.cell_rect(level, cut, key.index());
         let channels = layout.channels();
-        let samples = zeros(alloc, rect, channels)?;
+        let samples = zeros(alloc, rect, channels, layout.depth())?;
+        let scratch = zero_row(alloc, rect.w, channels)?;
         Ok(Halving {
             layout,
             cut,
@@ -94,6 +104,7 @@ impl<'a, W: World> Halving<'a, W> {
             down: PartSpan::of(&source.down, rect.y, rect.h),
             rect,
             channels,
+            scratch,
             samples,
             world: PhantomData,
         })
@@ -139,31 +150,44 @@ impl<'a, W: World> Halving<'a, W> {
             cell: self.rect,
             channels: self.channels,
         };
-        halve_part(tile, &place, &mut self.samples);
+        halve_part(tile, &place, &mut self.scratch, &mut self.samples);
         self.done += 1;
     }
 
-    /// The tile, after all parts were added. For an 8-bit file it keeps one byte per sample, if
-    /// memory for that is found.
+    /// The tile, after all parts were added.
     pub fn finish(self) -> Tile<W>
         requires done { self.done ≡ part_count self.layout self.cut self.key }
         ensures tile { IsCellTile self.entry.layout self.entry.cut self.entry.key result }
         ensures told { IsTold W.files result }
     {
-        let texels = kept_samples(self.layout.depth(), self.samples);
-        tile_of(self.key, self.rect, self.channels, texels)
+        tile_of(self.key, self.rect, self.channels, self.samples)
     }
 }
 
-/// A sample buffer for a rectangle, all 0.
-fn zeros(alloc: Global, rect: Rect, channels: u32) -> Result<Vec<u16>, AllocError>
-    requires { rect.w * rect.h * channels ≤ max_cell_samples }
+/// A row of this many texels, all 0.
+fn zero_row(alloc: Global, width: u32, channels: u32) -> Result<Vec<u16>, AllocError>
+    ensures { IfOk result (λ row. length row.items ≡ width * channels) }
+{
+    vec![in alloc; 0u16; width as usize * channels as usize]
+}
+
+/// A sample buffer for a rectangle of a file with this number of bits, all 0.
+fn zeros(alloc: Global, rect: Rect, channels: u32, depth: u32) -> Result<RectSamples, AllocError>
+    requires few { rect.w * rect.h * channels ≤ max_cell_samples }
+    requires depth { IsDepth depth }
     ensures count { IfOk result (λ samples.
-        length samples.items ≡ rect.w * rect.h * channels) }
-    ensures zeros { IfOk result (λ samples. AreZeros samples.items) }
+        length (samples_of samples) ≡ rect.w * rect.h * channels) }
+    ensures zeros { IfOk result (λ samples. AreZeros (samples_of samples)) }
+    ensures depth { IfOk result (λ samples. sample_bits samples ≡ depth) }
 {
     let count = rect.w as usize * rect.h as usize * channels as usize;
-    let mut samples = Vec::with_capacity(alloc, count)?;
-    samples.resize(count, 0)?;
-    Ok(samples)
+    if depth == BYTE_DEPTH {
+        let mut bytes = Vec::with_capacity(alloc, count)?;
+        bytes.resize(count, 0u8)?;
+        Ok(RectSamples::Bytes(bytes))
+    } else {
+        let mut shorts = Vec::with_capacity(alloc, count)?;
+        shorts.resize(count, 0u16)?;
+        Ok(RectSamples::Shorts(shorts))
+    }
 }

@@ -7,7 +7,6 @@ mod halve_part;
 mod halving;
 mod load_error;
 mod loading;
-mod narrow;
 mod part_place;
 mod part_span;
 mod tiles;

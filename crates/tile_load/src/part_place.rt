@@ -23,6 +23,14 @@ impl PartPlace {
         (self.part.h / 2).max(1)
     }
 
+    /// The number of samples in each of them.
+    pub(crate) fn row_samples(&self) -> usize
+        ensures value { result ≡ halved self.now.part.w * self.now.channels }
+        ensures inside { result ≤ self.now.cell.w * self.now.channels }
+    {
+        (self.part.w as usize / 2).max(1) * self.channels as usize
+    }
+
     /// Where row j of these begins among the cell's samples.
     pub(crate) fn start(&self, j: u32) -> usize
         requires { j < halved self.now.part.h }

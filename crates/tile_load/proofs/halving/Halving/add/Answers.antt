@@ -3,7 +3,9 @@ use Rattle.std.proofs.Common.{◌∙◌, subst, arith}
 use Rattle.std.proofs.Math.Seq.{take-append_seam}
 use Rattle.tiff_format.specs.Level.{halved}
 use Rattle.tiff_format.specs.declared.rect.Rect.{Rect}
-use Rattle.tile_layout.specs.Cell.{channels_in}
+use Rattle.tiff_format.specs.Texel.{greatest_sample}
+use Rattle.tile_layout.specs.Cell.{channels_in, bit_depth_in}
+use Rattle.rect_read.specs.RectSamples.{samples_of}
 use Rattle.tile_load.specs.CellTile.{IsCellTile}
 use Rattle.tile_load.specs.Halving.{HalvingState, rect_of, part_count, part_key}
 use Rattle.tile_load.specs.Halved.{IsHalving}
@@ -57,9 +59,10 @@ invariant_of-self g c =
     let n = channels_in layout in
     let tile = c.args.tile.now in
     let files = g.W.World.files in
-    let old = a.samples.items in
-    let new = c.halve_part.new.samples in
-    let rest = drop (length new) old in
+    let old = samples_of a.samples in
+    let new = samples_of c.halve_part.new.samples in
+    let scratch = c.halve_part.new.scratch in
+    let most = greatest_sample (bit_depth_in layout) in
     let below : a.done < part_count layout a.cut a.key =
     subst (λ (s : HalvingState). s.done < part_count s.layout s.cut s.key) (sym c.self.view_is)
     c.requires.next in
@@ -79,25 +82,28 @@ invariant_of-self g c =
     let long : length old ≡ cell.w * cell.h * n =
     texels ∙ ap (λ (r : Rect). r.w * r.h * a.channels) is.rect_is
     ∙ ap (λ (k : ℕ). cell.w * cell.h * k) is.channels_is in
-    let halves : HalvesRows (part_rect layout a.cut a.key is.cell a.done below) cell n tile.texels 0
-    (halved (part_rect layout a.cut a.key is.cell a.done below).h) old new =
-    subst (λ (k : ℕ). HalvesRows (part_rect layout a.cut a.key is.cell a.done below) cell k
-    tile.texels 0 (halved (part_rect layout a.cut a.key is.cell a.done below).h) old new)
+    let part = part_rect layout a.cut a.key is.cell a.done below in
+    let halves : HalvesRows part cell n tile.texels most 0 (halved part.h) old new =
+    subst (λ (k : ℕ). HalvesRows part cell k tile.texels most 0 (halved part.h) old new)
     is.channels_is
-    (subst (λ (r : Rect). HalvesRows (part_rect layout a.cut a.key is.cell a.done below) r a.channels
-    tile.texels 0 (halved (part_rect layout a.cut a.key is.cell a.done below).h) old new)
+    (subst (λ (r : Rect). HalvesRows part r a.channels tile.texels most 0 (halved part.h) old new)
     is.rect_is
-    (subst (λ (r : Rect). HalvesRows r a.rect a.channels tile.texels 0 (halved r.h) old new) part_is
-    (subst (λ (xs : List ℕ). HalvesRows c.rect.result a.rect a.channels tile.texels 0
-    (halved c.rect.result.h) xs new) c.deref_mut.ensures.value c.halve_part.ensures))) in
+    (subst (λ (r : Rect). HalvesRows r a.rect a.channels tile.texels most 0 (halved r.h) old new)
+    part_is
+    (subst (λ (depth : ℕ). HalvesRows c.rect.result a.rect a.channels tile.texels
+    (greatest_sample depth) 0 (halved c.rect.result.h) old new) is.depth
+    c.halve_part.ensures.halves))) in
     let same : length new ≡ length old = halves.long in
-    let all : a.samples.len ≡ length new = omega (arith, same) in
-    let samples : take a.samples.len (new ++ rest) ≡ new =
-    ap (λ (k : ℕ). take k (new ++ rest)) all ∙ take-append_seam new rest in
+    let rest = drop (length scratch) a.scratch.items in
+    let kept : length scratch ≡ length a.scratch.items =
+    c.halve_part.ensures.room ∙ ap (λ (xs : List ℕ). length xs) c.deref_mut.ensures.value in
+    let all : a.scratch.len ≡ length scratch = omega (arith, kept) in
+    let scratch_is : take a.scratch.len (scratch ++ rest) ≡ scratch =
+    ap (λ (k : ℕ). take k (scratch ++ rest)) all ∙ take-append_seam scratch rest in
     let told = told_more layout a.cut a.key is.cell a.done below tile own.key_is tile_rect
     own.channels_is old new few_own long halves files is.told c.key.ensures.told in
     subst (λ (xs : List ℕ). IsHalving files layout a.cut a.key (a.done + 1) a.source a.across a.down
-    a.rect a.channels xs) (sym samples)
+    a.rect a.channels xs c.halve_part.new.samples) (sym scratch_is)
     (record {
       cell = is.cell;
       rect_is = is.rect_is;
@@ -105,6 +111,8 @@ invariant_of-self g c =
       spans = is.spans;
       channels_is = is.channels_is;
       done_few = omega (arith, below);
+      room = kept ∙ is.room;
+      depth = c.halve_part.ensures.depth ∙ is.depth;
       tile = record {
         channels = is.tile.channels;
         texels = same ∙ texels;

@@ -16,7 +16,7 @@ tile_of-requires-clause-told g c =
     let is = c.self.invariant in
     let layout = a.layout.now in
     let files = g.W.World.files in
-    let samples = a.samples.items in
+    let samples = samples_of a.samples in
     let all : a.done ≡ part_count layout a.cut a.key =
     subst (λ (s : HalvingState). s.done ≡ part_count s.layout s.cut s.key) (sym c.self.view_is)
     c.requires.done in
@@ -29,20 +29,15 @@ tile_of-requires-clause-told g c =
     let told = told_whole layout a.cut a.key is.cell samples long files
     (subst (λ (k : ℕ). ToldBy files a.key (λ bytes. IsHalfMade bytes layout a.cut a.key k samples))
     all is.told) in
-    rw c.kept_samples-texels.ensures
-    (subst (λ (r : Rect). IsTold files (cached_tile a.key r a.channels samples)) (sym is.rect_is)
+    subst (λ (r : Rect). IsTold files (cached_tile a.key r a.channels samples)) (sym is.rect_is)
     (subst (λ (n : ℕ). IsTold files (cached_tile a.key (rect_of layout a.cut a.key) n samples))
-    (sym is.channels_is) told))
-
-pub tile_of-requires-clause-tile : goal.tile_of-requires-clause-tile
-tile_of-requires-clause-tile g c =
-    let is = c.self.invariant in rw c.kept_samples-texels.ensures is.tile
+    (sym is.channels_is) told)
 
 pub returns-clause-tile : goal.returns-clause-tile
 returns-clause-tile g c =
     let a = c.self.inside in
     let is = c.self.invariant in
-    let tile = cached_tile a.key a.rect a.channels (samples_of c.kept_samples-texels.result) in
+    let tile = cached_tile a.key a.rect a.channels (samples_of a.samples) in
     let own : IsCellTile a.layout.now a.cut a.key tile = record {
       key_is = refl;
       rect_is = is.rect_is;

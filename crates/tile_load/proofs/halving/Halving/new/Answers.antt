@@ -1,9 +1,10 @@
-use Rattle.std.proofs.Common.{◌-◌, ◌≤◌, sym, subst}
+use Rattle.std.proofs.Common.{◌-◌, ◌≤◌, sym, ◌∙◌, subst}
 use Rattle.std.proofs.Common.{arith}
 use Rattle.tiff_format.specs.declared.rect.Rect.{Rect}
 use Rattle.tile_layout.specs.Cell.{rect_bytes, max_cell_bytes}
 use Rattle.tile_layout.specs.Kept.{stored_count}
 use Rattle.tile_layout.specs.Key.{level_of, index_of}
+use Rattle.rect_read.specs.RectSamples.{samples_of}
 use Rattle.tile_load.specs.Halving.{rect_of}
 use Rattle.tile_load.proofs.CellParts.{grid_across, grid_down}
 use Rattle.tile_load.proofs.GeneratedCells.{level_some, begun, told_begun, spans_are}
@@ -88,7 +89,7 @@ invariant_of-result g c =
     c.generation.ensures.valid c.level-level.ensures.value c.index.ensures.value
     c.grid-source.ensures.value c.cell_rect-rect.ensures.value c.cell_rect-rect.ensures.some in
     let channels = c.channels-channels.result in
-    let samples = c.in_ok-samples.samples.items in
+    let samples = samples_of c.in_ok-samples.samples in
     let count = c.in_ok-samples.ensures.count in
     let fit = cells_fit state layout c.in-Ok.ensures.value cut c.requires.fits in
     let there : rect_bytes channels (rect_of layout cut key) ≤ max_cell_bytes =
@@ -104,6 +105,8 @@ invariant_of-result g c =
           c.of.ensures.first c.of.ensures.count c.of-2.ensures.first c.of-2.ensures.count;
       channels_is = c.channels-channels.ensures.first;
       done_few = omega arith;
+      room = c.in_ok-scratch.ensures;
+      depth = c.in_ok-samples.ensures.depth ∙ c.depth.ensures.first;
       tile = record {
         channels = c.channels-channels.ensures.in_range;
         texels = count;
