@@ -1150,6 +1150,10 @@ private:
     void open_set(TextureHandle &set, Perthread *own)
     {
         const detail::Facts *facts = nullptr;
+        {
+            std::lock_guard<std::mutex> guard(state_->lock);
+            set.error_ = name_of(&set) + ": no tile of this UDIM name can be read";
+        }
         for (std::uint32_t tile : tiles_of(set)) {
             const ustring path = path_of_tile(set, tile);
             TextureHandle *found = path.empty() ? nullptr : handle_at(path, path.string(), own);

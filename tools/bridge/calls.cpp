@@ -308,6 +308,16 @@ void of_tiles(TextureSystem *system)
     check(system->texture(pattern, o, 1.4f, 2.4f, 0, 0, 0, 0, 3, value) && value[2] > 0, "a tile that was replaced");
     check(!system->texture(pattern, o, 0.5f, 0.5f, 0, 0, 0, 0, 3, value) && said(system, "a.1001.tif"), "the one that is gone");
     check(system->good(system->get_texture_handle(pattern)), "the set is still there");
+    // a set whose only tile cannot be read, and one that has another tile
+    const ustring bad("y.<UDIM>.tif");
+    copy(folder + "/bad.tif", other + "/y.1001.tif");
+    check(!system->good(system->get_texture_handle(bad)) && !system->texture(bad, o, 0.5f, 0.5f, 0, 0, 0, 0, 1, value)
+              && said(system, "y.1001.tif"), "a set of a bad tile");
+    copy(folder + "/ramp.tif", other + "/y.1002.tif");
+    system->invalidate(bad);
+    check(system->good(system->get_texture_handle(bad)) && system->texture(bad, o, 1 + 5.5f / 128, 10.5f / 64, 0, 0, 0, 0, 1, value)
+              && is_near(value[0], at(5, 10)) && !system->texture(bad, o, 0.5f, 0.5f, 0, 0, 0, 0, 1, value) && said(system, "y.1001.tif"),
+          "a set of a bad tile and a good one");
 }
 
 void of_facts(TextureSystem *system)
