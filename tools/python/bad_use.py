@@ -28,7 +28,7 @@ def of_caches(t, folder):
     yield lambda: t.Cache("a\0b"), ValueError, "zero byte"
     yield lambda: t.Cache(folder, budgt=5), TypeError, "'budgt'"
     yield lambda: t.Cache(folder, 1 << 20), TypeError, "positional"
-    yield lambda: t.Cache(folder, budget=2 ** 33), t.Refused, "budget"
+    yield lambda: t.Cache(folder, budget=2 ** 41), t.Refused, "budget"
     yield lambda: t.Cache(folder, budget=2 ** 70), ValueError, "budget is"
     yield lambda: t.Cache(folder, budget=-1), ValueError, "budget is -1"
     yield lambda: t.Cache(folder, budget=1.5), TypeError, "budget is 1.5"
