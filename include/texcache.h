@@ -34,11 +34,11 @@
 #include <stdint.h>
 
 /* The version of this header, as in the file VERSION. The library has one too: texcache_version(). */
-#define TEXCACHE_VERSION "1.0.0-rc5"
+#define TEXCACHE_VERSION "1.0.0-rc6"
 
 /* The calls that open a cache have the version in their symbol. So a program does not link with a library of another
- * version, whose structs and calls may differ: texcache_open_1_0_0_rc5 is then undefined. */
-#define TEXCACHE_SYMBOL(name) __asm__(name "_1_0_0_rc5")
+ * version, whose structs and calls may differ: texcache_open_1_0_0_rc6 is then undefined. */
+#define TEXCACHE_SYMBOL(name) __asm__(name "_1_0_0_rc6")
 
 #ifdef __cplusplus
 extern "C" {

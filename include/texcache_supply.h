@@ -49,6 +49,18 @@ typedef struct texcache_room {
     void *at;
 } texcache_room;
 
+/* What a look at a file shows, as far as it changes if the file is replaced or written to. `modified` and `changed` are
+ * st_mtim and st_ctim in nanoseconds. A file system of your own that lacks one of the numbers says 0. */
+typedef struct texcache_stamp {
+    uint64_t device, inode, size, modified, changed;
+} texcache_stamp;
+
+/* The newest version of a file that was seen: its generation, 0 before the first look, and its stamp. */
+typedef struct texcache_version_seen {
+    uint32_t generation;
+    texcache_stamp stamp;
+} texcache_version_seen;
+
 /* A freshness check of a file: its generation and length. */
 typedef struct texcache_seen {
     uint32_t file, generation;
@@ -107,6 +119,11 @@ uint32_t tex_c_release_tile(texcache_held from, texcache_held *to, size_t place)
 uint32_t tex_c_invalidate(texcache_held from, texcache_held *to, uint32_t file, bool force,
                           texcache_supply_answer *answer);
 uint32_t tex_c_invalidate_all(texcache_held from, texcache_held *to, texcache_supply_answer *answer);
+
+/* Drops what the cache keeps of a file beside its tiles: its directories, and bytes that were read ahead. The next call on
+ * the file reads its directories again. TEXCACHE_OK, TEXCACHE_NO_FILE or TEXCACHE_BUSY. */
+uint32_t tex_c_drop_record(texcache_held from, texcache_held *to, uint32_t file);
+
 void tex_c_counts(texcache_held from, texcache_held *to, texcache_counts *out);
 uint32_t tex_c_shard(texcache_held from, texcache_held *to, uint32_t shard, texcache_shard *out);
 uint32_t tex_c_supply_look(texcache_held from, texcache_held *to, uint32_t file, uint32_t generation, uint64_t len);
@@ -117,6 +134,19 @@ uint32_t tex_c_supply_bytes(texcache_held from, texcache_held *to, uint32_t file
                             texcache_room room);
 uint32_t tex_c_supply_rows(texcache_held from, texcache_held *to, const texcache_rows *rows, texcache_room room);
 uint32_t tex_c_supply_fault(texcache_held from, texcache_held *to);
+
+/* Which version of a file was found, opened or read. These calls take no handle; one at a time uses a `known`. */
+
+/* Notes what a look at a file found: 0 the known version, 1 a newer one, which `known` then is, or 2 another one for which
+ * no generation is left. */
+uint32_t tex_c_found(texcache_version_seen *known, const texcache_stamp *seen);
+
+/* The generation of an open file whose descriptor has this stamp, or 0 if it is not the known version. */
+uint32_t tex_c_opened(const texcache_version_seen *known, const texcache_stamp *seen);
+
+/* Whether bytes may be supplied as those of generation `needed`: they were read from a file that tex_c_opened said to be of
+ * generation `opened`, and the look after the reading found the version `known`. */
+bool tex_c_may_answer(const texcache_version_seen *known, uint32_t opened, uint32_t needed);
 
 #ifdef __cplusplus
 }

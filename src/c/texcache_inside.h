@@ -61,20 +61,16 @@ typedef struct texc_name {
     char text[];
 } texc_name;
 
-/* What changes if a file is replaced or written to. Times are in nanoseconds. */
-typedef struct texc_stamp {
-    uint64_t device, inode, size, modified, changed;
-} texc_stamp;
-
 /* Where a file is. */
 typedef struct texc_place {
     const char *name;  /* as in texc_name */
     size_t root;       /* the bytes of it that name a folder of the search path, with the slash behind it; or 0 */
 } texc_place;
 
-/* An open file of one generation. The cache's open_lock guards all of it but fd. */
+/* An open file of one generation. The cache's open_lock guards what follows `generation`. */
 typedef struct texc_open {
     int fd;
+    uint32_t generation; /* as tex_c_opened said of its descriptor; never written again */
     unsigned users;   /* threads that read from it; if there are none it is idle */
     bool is_old;      /* no longer its file's: the last user closes it */
     texc_file *file;
@@ -99,9 +95,8 @@ typedef struct texc_sampled {
 struct texc_file {
     texc_place place;
     uint64_t errors;       /* calls that failed because of this file */
-    pthread_mutex_t lock;  /* guards the next six */
-    uint32_t generation;   /* the latest one, 0 before the first look */
-    texc_stamp stamp;      /* of that generation */
+    pthread_mutex_t lock;  /* guards the next five */
+    texcache_version_seen known; /* its newest version, as tex_c_found keeps it */
     uint64_t missing_until;  /* until when nobody looks at it again, because it was not there */
     texc_why why;            /* it was not there */
     texc_tally tally;

@@ -11,14 +11,14 @@
 #include <time.h>
 #include <unistd.h>
 
-/* A generation is a version of a file, 1 to this. */
-#define TEXC_LAST_GENERATION 1048575u
 /* The least number of bytes that is read at once, if the file has them. */
 #define TEXC_BLOCK 16384
 /* How often a file is opened anew because it was closed before it was read. */
 #define TEXC_OPENS 8
 /* How often a thread waits for a descriptor, at most a millisecond each time. */
 #define TEXC_WAITS 1000
+/* What tex_c_found answers: a version that was not known, and one for which no generation is left. */
+enum { TEXC_NEWER = 1, TEXC_USED_UP };
 /* The least block of which one byte is sampled, and how many bits a file has for its blocks at most. */
 #define TEXC_SAMPLED 4096
 #define TEXC_BITS 65536
@@ -67,10 +67,10 @@ static uint64_t texc_mark(texc_file *file, uint64_t at, uint64_t size)
     uint64_t again = 0;
     if (!sampled->bits) {
         sampled->block = TEXC_SAMPLED;
-        while (file->stamp.size / sampled->block >= TEXC_BITS) sampled->block *= 2;
-        sampled->bits = calloc((size_t)(file->stamp.size / sampled->block / 8 + 1), 1);
+        while (file->known.stamp.size / sampled->block >= TEXC_BITS) sampled->block *= 2;
+        sampled->bits = calloc((size_t)(file->known.stamp.size / sampled->block / 8 + 1), 1);
     }
-    if (!sampled->bits || !size || at + size > file->stamp.size) return 0;
+    if (!sampled->bits || !size || at + size > file->known.stamp.size) return 0;
     for (uint64_t number = at / sampled->block; number <= (at + size - 1) / sampled->block; number++) {
         uint64_t place = texc_sample(sampled, number);
         uint8_t bit = (uint8_t)(1 << number % 8);
@@ -182,17 +182,11 @@ static uint64_t texc_nanoseconds(const struct timespec *time)
     return (uint64_t)time->tv_sec * 1000000000u + (uint64_t)time->tv_nsec;
 }
 
-static texc_stamp texc_stamp_of(const struct stat *seen)
+static texcache_stamp texc_stamp_of(const struct stat *seen)
 {
-    texc_stamp stamp = {seen->st_dev, seen->st_ino, (uint64_t)seen->st_size, texc_nanoseconds(&seen->st_mtim),
+    texcache_stamp stamp = {seen->st_dev, seen->st_ino, (uint64_t)seen->st_size, texc_nanoseconds(&seen->st_mtim),
                         texc_nanoseconds(&seen->st_ctim)};
     return stamp;
-}
-
-static bool texc_is_same(const texc_stamp *one, const texc_stamp *other)
-{
-    return one->device == other->device && one->inode == other->inode && one->size == other->size
-           && one->modified == other->modified && one->changed == other->changed;
 }
 
 /* Keeps for a while that a file cannot be read, and why; its lock is held. */
@@ -217,18 +211,19 @@ static bool texc_look(texcache *cache, texc_file *file, struct stat *seen)
     return (!failed && texc_is_plain(seen)) || texc_miss(cache, file);
 }
 
-/* Looks at a file and settles its generation; its lock is held. Returns whether it is a plain file. */
+/* Looks at a file, and has the library say which generation that is; the file's lock is held. Returns whether it is a plain
+ * file. */
 static bool texc_settle(texcache *cache, texc_file *file)
 {
     struct stat seen;
     if (!texc_look(cache, file, &seen)) return false;
-    const texc_stamp stamp = texc_stamp_of(&seen);
-    if (file->generation && texc_is_same(&file->stamp, &stamp)) return true;
-    if (file->generation == TEXC_LAST_GENERATION) return texc_fails("it was replaced 1048575 times", 0);
-    texc_forget(cache, file);
-    texc_unmark(file);
-    file->generation++;
-    file->stamp = stamp;
+    const texcache_stamp stamp = texc_stamp_of(&seen);
+    uint32_t found = tex_c_found(&file->known, &stamp);
+    if (found == TEXC_USED_UP) return texc_fails("it was replaced 1048575 times", 0);
+    if (found == TEXC_NEWER) {
+        texc_forget(cache, file);
+        texc_unmark(file);
+    }
     return true;
 }
 
@@ -246,15 +241,18 @@ int texc_descriptor(texcache *cache, int at, const char *name, int flags)
     }
 }
 
-/* Whether a descriptor is that of a file's latest generation; the file's lock is held. */
-static bool texc_is_latest(const texc_file *file, int fd)
+/* The generation of the file that a descriptor has, or 0; the file's lock is held. */
+static uint32_t texc_opened(const texc_file *file, int fd)
 {
     struct stat seen;
-    if (fstat(fd, &seen)) return texc_fails("the file cannot be looked at", errno);
-    const texc_stamp stamp = texc_stamp_of(&seen);
-    if (texc_is_same(&file->stamp, &stamp)) return true;
-    texc_notes_replaced();
-    return false;
+    if (fstat(fd, &seen)) {
+        texc_notes("the file cannot be looked at", errno);
+        return 0;
+    }
+    const texcache_stamp stamp = texc_stamp_of(&seen);
+    uint32_t generation = tex_c_opened(&file->known, &stamp);
+    if (!generation) texc_notes_replaced();
+    return generation;
 }
 
 /* Opens a file at its latest generation, or returns NULL; its lock is held. */
@@ -272,7 +270,8 @@ static texc_open *texc_open_file(texcache *cache, texc_file *file)
     file->tally.opens++;
     texc_open *open = calloc(1, sizeof *open);
     if (!open) texc_notes("there is no memory to open it", 0);
-    if (!open || !texc_is_latest(file, fd)) {
+    if (open) open->generation = texc_opened(file, fd);
+    if (!open || !open->generation) {
         close(fd);
         free(open);
         return NULL;
@@ -312,7 +311,7 @@ void texc_look_anew(texcache *cache, uint32_t number, bool force)
 bool texc_is_known(texcache *cache, uint32_t file)
 {
     texc_lock(&cache->files[file]);
-    bool is_known = cache->files[file].generation != 0;
+    bool is_known = cache->files[file].known.generation != 0;
     pthread_mutex_unlock(&cache->files[file].lock);
     return is_known;
 }
@@ -376,7 +375,7 @@ static bool texc_count_read(texc_file *file, const texc_wanted *w, uint64_t time
     texc_tally *tally = &file->tally;
     size_t row = texc_row(w);
     uint64_t at = w->rows.at;
-    bool is_latest = file->generation == w->rows.generation;
+    bool is_latest = file->known.generation == w->rows.generation;
     tally->input_time += time;
     if (!is_read) return false;
     tally->bytes += w->size;
@@ -389,15 +388,16 @@ static bool texc_count_read(texc_file *file, const texc_wanted *w, uint64_t time
 }
 
 /* Reads from a file while it has the generation that is needed; its lock is held, and given up while it reads. `is_there`
- * says whether the file exists then. Returns whether the bytes are those of that generation. If the file was closed
- * meanwhile, because it is to be opened anew, it is read again. */
+ * says whether the file exists then. Returns whether the library says that the bytes are those of that generation. If the
+ * file was closed meanwhile, because it is to be opened anew, it is read again. */
 static bool texc_read_version(texcache *cache, texc_file *file, const texc_wanted *w, uint8_t *to, bool *is_there)
 {
     bool is_read, is_own;
+    uint32_t opened = 0;
     unsigned tries = 0;
     *is_there = texc_settle(cache, file);
     do {
-        texc_open *open = *is_there && file->generation == w->rows.generation ? texc_take(cache, file) : NULL;
+        texc_open *open = *is_there && file->known.generation == w->rows.generation ? texc_take(cache, file) : NULL;
         is_read = is_own = false;
         if (open) {
             pthread_mutex_unlock(&file->lock);
@@ -406,13 +406,14 @@ static bool texc_read_version(texcache *cache, texc_file *file, const texc_wante
             from = texc_now() - from;
             texc_lock(file);
             is_read = texc_count_read(file, w, from, is_read);
+            opened = open->generation;
             is_own = texc_give_back(cache, open);
         }
         *is_there = texc_settle(cache, file);
         if (!open) return false;
     } while (!is_own && ++tries < TEXC_OPENS);
     if (!is_own) texc_notes_replaced();
-    return *is_there && is_read && is_own && file->generation == w->rows.generation;
+    return *is_there && is_read && is_own && tex_c_may_answer(&file->known, opened, w->rows.generation);
 }
 
 /* Reads the bytes or rows that the library needs into one of its buffers, and supplies them. If the file has a newer
@@ -430,8 +431,8 @@ static uint32_t texc_supply_bytes(texcache_pass *pass, const texcache_supply_ans
     if (code) return code;
     texc_lock(file);
     bool is_read = texc_read_version(cache, file, &w, bytes, &is_there);
-    uint32_t generation = file->generation;
-    uint64_t len = file->stamp.size;
+    uint32_t generation = file->known.generation;
+    uint64_t len = file->known.stamp.size;
     pthread_mutex_unlock(&file->lock);
     if (is_read && need->need == 2)
         return tex_c_supply_bytes(pass->held, &pass->held, w.rows.file, generation, w.rows.at, room);
@@ -448,8 +449,8 @@ static uint32_t texc_supply_look(texcache_pass *pass, uint32_t number)
     texc_file *file = &pass->cache->files[number];
     texc_lock(file);
     bool is_there = texc_settle(pass->cache, file);
-    uint32_t generation = file->generation;
-    uint64_t len = file->stamp.size;
+    uint32_t generation = file->known.generation;
+    uint64_t len = file->known.stamp.size;
     pthread_mutex_unlock(&file->lock);
     if (!is_there) return TEXCACHE_READ_FAULT;
     return tex_c_supply_look(pass->held, &pass->held, number, generation, len);

@@ -150,7 +150,7 @@ static bool texc_count_file(texcache *cache, uint32_t number, texc_line *line)
     memset(&said, 0, sizeof said);
     pthread_mutex_lock(&file->lock);
     line->tally = file->tally;
-    line->generation = file->generation;
+    line->generation = file->known.generation;
     pthread_mutex_unlock(&file->lock);
     line->file = number;
     line->errors = __atomic_load_n(&file->errors, __ATOMIC_RELAXED);

@@ -516,9 +516,33 @@ static void over_a_folder(const char *folder)
     SAYS(texcache_close(&cache), TEXCACHE_BAD_ARGUMENT);
 }
 
+/* Which version was found, opened and read: each of a stamp's five numbers counts. */
+static void versions(void)
+{
+    texcache_version_seen known = {0};
+    texcache_stamp stamp = {1, 2, 3, 4, 5}, other;
+    uint64_t *numbers[] = {&other.device, &other.inode, &other.size, &other.modified, &other.changed};
+    IS(tex_c_opened(&known, &stamp) == 0 && !tex_c_may_answer(&known, 0, 0));
+    IS(tex_c_found(&known, &stamp) == 1 && known.generation == 1 && !memcmp(&known.stamp, &stamp, sizeof stamp));
+    IS(tex_c_found(&known, &stamp) == 0 && known.generation == 1 && tex_c_opened(&known, &stamp) == 1);
+    for (uint32_t i = 0; i < 5; i++) {
+        other = stamp;
+        ++*numbers[i];
+        IS(tex_c_opened(&known, &other) == 0);
+        IS(tex_c_found(&known, &other) == 1 && known.generation == 2 * i + 2);
+        IS(tex_c_found(&known, &stamp) == 1 && known.generation == 2 * i + 3);
+    }
+    IS(tex_c_may_answer(&known, 11, 11) && !tex_c_may_answer(&known, 10, 11) && !tex_c_may_answer(&known, 10, 10));
+    known.generation = 1048575;
+    other = stamp;
+    other.size++;
+    IS(tex_c_found(&known, &stamp) == 0 && tex_c_found(&known, &other) == 2 && known.stamp.size == 3);
+}
+
 int main(int count, char **words)
 {
     if (count != 2) return 2;
+    versions();
     by_hand();
     rows_by_hand();
     options_out_of_range(words[1]);

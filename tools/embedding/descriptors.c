@@ -190,7 +190,7 @@ static void goes_on(void)
     IS(value_of(pass, 2, &a) == 102 && value_of(pass, 12, &a) == 112 && value_of(pass, 19, &a) == 119);
     IS(value_of(pass, 3, &a) == 3 && a.generation == 1);
     /* files that nobody used are not known, and so not checked */
-    IS(cache->files[20].generation == 0);
+    IS(cache->files[20].known.generation == 0);
     texcache_end(&pass);
     IS(texcache_close(&cache) == TEXCACHE_OK);
 }

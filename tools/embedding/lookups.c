@@ -344,7 +344,7 @@ static unsigned first_call, last_call;
 static void replace(void)
 {
     texcache_answer a;
-    uint32_t file = file_of("flat.tif"), next = cache->files[file].generation + 1;
+    uint32_t file = file_of("flat.tif"), next = cache->files[file].known.generation + 1;
     put("flat.tif", (int)(next % 251), next);
     SAYS(texcache_invalidate(other, file, false, &a), TEXCACHE_OK);
     IS(a.generation == next);

@@ -43,6 +43,16 @@ impl<V: Waiter, T: Tap> Caller<V, T> {
             .get_pixels(&self.waiter, pass, tap, file, region, out)
     }
 
+    /// Drops what is kept of a file beside its tiles: its record, its read-ahead and its idle
+    /// handle. The next call that opens the file reads its directories again.
+    ///
+    /// If the waiter gives up, some of it may stay.
+    pub fn drop_record(&self, file: u32) -> Result<(), V::Busy>
+        requires { file < self.now.cache.files.board.files }
+    {
+        self.cache.drop_record(&self.waiter, file)
+    }
+
     /// Asks the tap for the newest generation of a file, and drops what is kept of older ones; with
     /// `force` everything that is kept of the file.
     pub fn invalidate(&mut self, file: u32, force: bool) -> Result<u32, CacheError<V::Busy>>

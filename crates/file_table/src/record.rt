@@ -17,12 +17,12 @@ use crate::known_level::KnownLevel;
 use crate::picture::{Picture, Unreadable};
 use std::alloc::{AllocError, Global};
 use std::marker::{Model, PhantomData};
-use tex_world::World;
+use tex_world::{MAX_FILES, World};
 use tiff_format::{Cut, TiffFault};
 use tile_layout::{Grid, Layout, TileKey};
 
 /// The greatest file number of a folder.
-const LAST_FILE: u32 = 4095;
+const LAST_FILE: u32 = MAX_FILES - 1;
 
 /// What is known of one generation of a file: its layout or its fault, and what lookups need to
 /// know of each level under the cut.

@@ -1,5 +1,4 @@
 pub mod RealWorld
-pub mod Stamp
 pub mod Listing
 pub mod RealHandle
 pub mod RealTap

@@ -13,7 +13,6 @@ mod world;
 
 pub use folder::RealFolder;
 pub use handle::RealHandle;
-pub use stamp::generation_after;
 pub use stream::{RealFeed, RealSink};
-pub use tap::{RealTap, settle_word};
+pub use tap::RealTap;
 pub use world::RealWorld;

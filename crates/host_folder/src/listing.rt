@@ -13,10 +13,7 @@ use std::fs::{DirEntry, Files, ReadDir};
 use std::io::{Error, ErrorKind};
 use std::sync::atomic::AtomicU64;
 use std::{fs, io};
-use tex_world::EnterError;
-
-/// The most files that a folder can have.
-const MAX_FILES: usize = 4096;
+use tex_world::{EnterError, MAX_FILES};
 
 /// The plain files that a folder had when it was listed, ordered by name, without duplicates. All
 /// taps share one atomic word per file, which holds the newest known generation and its stamp.
@@ -102,7 +99,7 @@ fn plain_files<R: Files + AllocGlobal + Clone + Drop>(
     let mut files = Vec::new(alloc);
     for entry in entries {
         if let Some(file) = plain_file(rt, alloc, entry)? {
-            if files.len() >= MAX_FILES {
+            if files.len() >= MAX_FILES as usize {
                 return Err(EnterError::TooMany);
             }
             files.push(file).map_err(|_| EnterError::NoMemory)?;

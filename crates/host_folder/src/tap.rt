@@ -6,12 +6,12 @@ ghost use Rattle.tex_world.specs.Tap.{IsNew, NamesNewer};
 ghost use Rattle.host_folder.specs.RealHandle.{handle_named};
 ghost use Rattle.host_folder.specs.RealTap.{tap_state, LooksTwice};
 ghost use Rattle.host_folder.specs.RealWorld.{untold_files};
-ghost use Rattle.host_folder.specs.Stamp.{stamps};
 
 use crate::handle::RealHandle;
 use crate::listing::Listing;
-use crate::stamp::{FileStatus, generation_after, settled, status_of};
+use crate::stamp::{FileStatus, status_of};
 use crate::world::RealWorld;
+use file_stamp::settle_word;
 use std::alloc::Global;
 use std::fs;
 use std::fs::{File, Files};
@@ -182,23 +182,6 @@ impl<R: Files<File = File>> RealTap<R> {
             _ => Err(ReadError::Failed),
         }
     }
-}
-
-/// The generation of a file with this stamp: that of the loaded word if the stamp is the same,
-/// otherwise the next one, which is written to the word. Never waits for another tap.
-pub fn settle_word(word: &AtomicU64, loaded: u64, stamp: u64) -> Option<u32>
-    requires { stamp < stamps }
-    ensures { IfSome result (λ g. (1 ≤ g) × (g ≤ last_generation)) }
-{
-    let wanted = settled(loaded, stamp)?;
-    if wanted == loaded {
-        return generation_after(loaded, loaded, stamp);
-    }
-    let found = match word.compare_exchange(loaded, wanted, Ordering::SeqCst, Ordering::SeqCst) {
-        Ok(_) => loaded,
-        Err(found) => found,
-    };
-    generation_after(loaded, found, stamp)
 }
 
 /// Whether an open file has the length and the stamp that were seen.

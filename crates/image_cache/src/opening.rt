@@ -56,6 +56,16 @@ impl<T: Tap> Cache<T> {
         pass.latest = Some(known);
     }
 
+    /// Drops what is kept of a file beside its tiles: its record, its read-ahead and its idle
+    /// handle. The next call that opens the file reads its directories again.
+    ///
+    /// If the waiter gives up, some of it may stay.
+    pub fn drop_record<V: Waiter>(&self, waiter: &V, file: u32) -> Result<(), V::Busy>
+        requires { file < self.now.files.board.files }
+    {
+        self.store.files.drop_idle(waiter, file)
+    }
+
     /// Takes out the pass's record if it is of this file's newest known generation, valid and with
     /// small enough cells. Reads the board once.
     pub fn local(&self, pass: &mut Pass<T::W>, file: u32) -> Option<Arc<Record<T::W>>>

@@ -15,5 +15,5 @@ mod window;
 pub use place::PlaneRect;
 pub use rect::{read_rect, read_texels};
 pub use rect_error::RectError;
-pub use texels::{RectSamples, narrowed};
+pub use texels::RectSamples;
 pub use window::MAX_GAP;

@@ -94,7 +94,7 @@ impl RectSamples {
 }
 
 /// Copies 8-bit samples into one byte each.
-pub fn narrowed(alloc: Global, samples: &[u16]) -> Result<Vec<u8>, AllocError>
+pub(crate) fn narrowed(alloc: Global, samples: &[u16]) -> Result<Vec<u8>, AllocError>
     requires { FitDepth 8 samples.now }
     ensures { IfOk result (λ bytes. bytes.items ≡ samples.now) }
 {

@@ -11,9 +11,11 @@ mod list;
 mod prepare;
 mod question;
 mod round;
+mod status;
 mod top;
 mod worker;
 
 pub use hook::{Hook, NoHook};
 pub use request_lang::{Answer, Name, Request, Values};
-pub use top::{NO_MEMORY, NOT_WRITTEN, run};
+pub use status::{BAD_LIST, BAD_WORDS, NO_MEMORY, NOT_WRITTEN, WITH_REFUSALS};
+pub use top::run;

@@ -5,11 +5,9 @@ ghost use Rattle.render_run.specs.declared.list.ListError.TheVariants.{NoMemory}
 ghost use Rattle.render_run.specs.Around.{feed_state};
 ghost use Rattle.render_run.specs.ListRead.{IsRead, ListCause};
 
+use request_lang::MAX_LIST_BYTES;
 use std::alloc::{AllocError, Global};
 use tex_world::{Failed, Feed};
-
-/// The most bytes that a list may have.
-const MAX_LIST_BYTES: usize = 16777216;
 
 /// How many bytes are read from the feed at a time.
 const CHUNK: usize = 65536;

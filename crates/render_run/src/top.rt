@@ -21,6 +21,9 @@ use crate::crew::{crew_of, give_back};
 use crate::hook::Hook;
 use crate::prepare::{Prepared, RunError, prepare};
 use crate::round::Setting;
+use crate::status::{
+    ALL_ANSWERED, BAD_LIST, BAD_WORDS, INPUT_FAULT, NO_MEMORY, NOT_WRITTEN, WITH_REFUSALS,
+};
 use answer_page::Page;
 use command_line::RunOptions;
 use image_cache::{Cache, NewError, Options, Pass};
@@ -29,27 +32,6 @@ use std::alloc::Global;
 use std::sync::{Arc, Wait};
 use std::thread::Threads;
 use tex_world::{Feed, Folder, NoMemory, Sink, Tap};
-
-/// The whole list was answered, and no line is a refusal.
-const ALL_ANSWERED: u8 = 0;
-
-/// The whole list was answered, and some line is a refusal.
-const WITH_REFUSALS: u8 = 1;
-
-/// The arguments are not those of the command.
-const BAD_WORDS: u8 = 2;
-
-/// The list is not valid.
-const BAD_LIST: u8 = 3;
-
-/// The folder or the input failed, or the folder has too many files.
-const INPUT_FAULT: u8 = 4;
-
-/// The output failed.
-pub const NOT_WRITTEN: u8 = 5;
-
-/// Out of memory outside an answer. No line of the current round was written.
-pub const NO_MEMORY: u8 = 6;
 
 /// Writes a text and returns `status`, or the status of an output that failed.
 fn put_status<O: Sink>(out: &mut O, text: &[u8], status: u8) -> u8

@@ -16,6 +16,6 @@ pub use answer::{Answer, Shards, Values};
 pub use cause::{BadList, ParseError};
 pub use closing::{Counts, total_text, worker_text};
 pub use line::{bad_list_text, head_text, line_text, short_line_text};
-pub use list::parse;
+pub use list::{MAX_LIST_BYTES, MAX_REQUESTS, parse};
 pub use request::{Name, Request};
 pub use values::{FEW_VALUES, MAX_PART_BYTES, PART_VALUES, values_text};

@@ -14,10 +14,10 @@ use crate::request_form::request_of;
 use std::alloc::Global;
 
 /// The most bytes of a list.
-const MAX_LIST_BYTES: usize = 16777216;
+pub const MAX_LIST_BYTES: usize = 16777216;
 
 /// The most requests of a list.
-const MAX_REQUESTS: usize = 1048576;
+pub const MAX_REQUESTS: usize = 1048576;
 
 /// The line number that means the whole list.
 const WHOLE_LIST: u32 = 0;

@@ -10,4 +10,4 @@ mod size;
 mod summary;
 mod top;
 
-pub use top::{NO_MEMORY, NOT_WRITTEN, sample};
+pub use top::sample;

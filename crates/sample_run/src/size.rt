@@ -4,10 +4,8 @@ ghost use Rattle.std.specs.Prelude.{◌≡◌, ◌<◌, ◌^◌, map, IfSome};
 ghost use Rattle.std.specs.String.{string_bytes};
 ghost use Rattle.sample_run.specs.Size as spec;
 
+use request_lang::MAX_REQUESTS;
 use short_text::digits_number;
-
-/// The most requests.
-const MAX_REQUESTS: u64 = 1048576;
 
 /// The most workers.
 const MAX_WORKERS: u64 = 16;
@@ -39,7 +37,7 @@ pub(crate) fn size_in(words: &[String]) -> Option<Size>
     let [requests, workers] = words else {
         return None;
     };
-    let requests = number(requests.as_str(), 0, MAX_REQUESTS)?;
+    let requests = number(requests.as_str(), 0, MAX_REQUESTS as u64)?;
     let workers = number(workers.as_str(), 1, MAX_WORKERS)?;
     Some(Size { requests, workers })
 }

@@ -12,30 +12,13 @@ use crate::list_feed::ListFeed;
 use crate::made_list::made_list;
 use crate::size::{Size, size_in};
 use crate::summary::summary;
-use render_run::{NoHook, run};
+use render_run::{BAD_LIST, BAD_WORDS, NO_MEMORY, NOT_WRITTEN, NoHook, WITH_REFUSALS, run};
+use request_lang::MAX_LIST_BYTES;
 use sample_folder::SampleFolder;
 use std::alloc::{AllocError, Global};
 use std::sync::Wait;
 use std::thread::Threads;
 use tex_world::{MemSink, NoMemory, Sink};
-
-/// Some line of the run is a refusal.
-const WITH_REFUSALS: u8 = 1;
-
-/// The arguments are not two valid numbers.
-const BAD_WORDS: u8 = 2;
-
-/// The list has too many bytes.
-const LONG_LIST: u8 = 3;
-
-/// The output failed.
-pub const NOT_WRITTEN: u8 = 5;
-
-/// Out of memory.
-pub const NO_MEMORY: u8 = 6;
-
-/// The most bytes of a list.
-const MAX_LIST_BYTES: usize = 16777216;
 
 /// What a run over the sample files wrote, and its status.
 #[derive(Drop)]
@@ -142,7 +125,7 @@ pub fn sample<R: Threads + Wait + Sync, O: Sink>(
         return NO_MEMORY;
     };
     if list.len() > MAX_LIST_BYTES {
-        return LONG_LIST;
+        return BAD_LIST;
     }
     let Ok(outcome) = answered(rt, alloc, size, list) else {
         return NO_MEMORY;

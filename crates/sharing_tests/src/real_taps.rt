@@ -2,7 +2,8 @@
 ghost use Rattle.std.specs.Prelude.{ℕ, ◌<◌};
 ghost use Rattle.tex_world.specs.World.{IsFile};
 
-use host_folder::{RealFolder, generation_after, settle_word};
+use file_stamp::{generation_after, settle_word};
+use host_folder::RealFolder;
 use std::alloc::Global;
 use std::sync::atomic::{AtomicU64, Ordering};
 use std::test::Fail;

@@ -224,6 +224,11 @@ pub record SaysShard (shard code : ℕ) (out_old out : TexShard) (old new : Clie
   pub cause : ¬ (code ≡ 0) → ((code ≡ 9) × (length old.cache.gate.id ≤ shard))
       ⊎ ((code ≡ 19) × (shard < length old.cache.gate.id))
 
+-- what a call answers that drops what is kept of a file; 19 says that another thread had a lock
+abbrev pub SaysDropped : ℕ → ℕ → ℕ → Type 0
+SaysDropped file files code =
+    ((code ≡ 3) × (files ≤ file)) ⊎ (((code ≡ 0) ⊎ (code ≡ 19)) × (file < files))
+
 -- ---- freshness checks
 
 -- One file was checked for a newer generation, with this answer. Up to an I/O error no tile was

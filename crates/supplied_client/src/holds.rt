@@ -3,10 +3,10 @@ ghost use Rattle.std.specs.Prelude.{◌≡◌, ◌<◌, length, take};
 ghost use Rattle.std.specs.Prelude.{IsTrue, IsFalse};
 ghost use Rattle.tile_store.specs.SampleRow.{samples_of};
 ghost use Rattle.supplied_client.specs.Calls.{SaysRow, SaysTileRow, SaysHeld, SaysRelease};
-ghost use Rattle.supplied_client.specs.Calls.{SaysCounts, SaysShard};
+ghost use Rattle.supplied_client.specs.Calls.{SaysCounts, SaysShard, SaysDropped, files_of};
 ghost use Rattle.supplied_client.specs.Request.{texel_of};
 
-use crate::answer::{ANSWERED, BUSY, NO_PART, NOTHING_HELD, SMALL_BUFFER};
+use crate::answer::{ANSWERED, BUSY, NO_FILE, NO_PART, NOTHING_HELD, SMALL_BUFFER};
 use crate::client::Client;
 use image_cache::{NotReleased, TexelAt};
 use supplied_tap::SuppliedWorld;
@@ -148,6 +148,19 @@ impl Client {
                 };
                 ANSWERED
             }
+            Err(_) => BUSY,
+        }
+    }
+
+    /// Drops what the cache keeps of a file beside its tiles.
+    pub fn drop_record(&self, file: u32) -> u32
+        ensures { SaysDropped file (files_of self.now) result }
+    {
+        if self.files() <= file {
+            return NO_FILE;
+        }
+        match self.caller.drop_record(file) {
+            Ok(()) => ANSWERED,
             Err(_) => BUSY,
         }
     }

@@ -2,7 +2,7 @@
 ghost use Rattle.std.specs.Prelude.{◌≡◌, IsNone, IsSome, IsSomeAnd};
 ghost use Rattle.texture_sys.specs.Asked.{one_point, one_footprint};
 ghost use Rattle.supplied_client.specs.Calls.{Hands, SaysLookup, SaysLocally, SaysInfo, SaysRegion};
-ghost use Rattle.supplied_client.specs.Calls.{SaysInvalid, SaysAllInvalid};
+ghost use Rattle.supplied_client.specs.Calls.{SaysInvalid, SaysAllInvalid, SaysDropped, files_of};
 ghost use Rattle.tex_c.specs.Exports.{IsMade, IsNotMade, IsSplitOff, SaysSplit};
 ghost use Rattle.supplied_client.specs.Client.{LeavesFile, LeavesChecked};
 ghost use Rattle.supplied_client.specs.Request.{IsPoint, IsFootprint, point_of, footprint_of};
@@ -15,9 +15,7 @@ use supplied_client::{
     ANSWERED, BAD_OPTIONS, BAD_REQUEST, Client, NO_MEMORY, NO_PERMIT, TexAnswer, TexInfo,
     TexLookup, TexRegion,
 };
-
-/// The greatest number of files of a folder.
-const MAX_FILES: u32 = 4096;
+use tex_world::MAX_FILES;
 
 /// Makes a cache of `files` files, and its first pass.
 #[unsafe(no_mangle)]
@@ -210,6 +208,20 @@ pub extern "C" fn tex_c_invalidate(
 {
     let mut client = from.into_box();
     let code = client.say_invalidate(file, force, answer);
+    *to = Held::of(client);
+    code
+}
+
+/// Drops what is kept of a file beside its tiles: what its directories say, and bytes read ahead.
+/// The next call on the file reads its directories again.
+#[unsafe(no_mangle)]
+pub extern "C" fn tex_c_drop_record(from: Held, to: &mut Held, file: u32) -> u32
+    requires from { IsSome from.value }
+    ensures { Hands from.value to.new.value (λ old new.
+        SaysDropped file (files_of old) result × (new ≡ old)) }
+{
+    let client = from.into_box();
+    let code = client.drop_record(file);
     *to = Held::of(client);
     code
 }

@@ -6,6 +6,7 @@ mod exports;
 mod exports_batch;
 mod exports_supplies;
 mod exports_tiles;
+mod exports_versions;
 mod held;
 mod options;
 mod parts;

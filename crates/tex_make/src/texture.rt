@@ -11,32 +11,11 @@ use crate::field::{Field, FieldKind};
 use crate::level::Level;
 use crate::picture::{Pyramid, RGB_COLOURS};
 use std::alloc::{AllocError, Global};
-
-const NEW_SUBFILE_TYPE: u16 = 254;
-
-const IMAGE_WIDTH: u16 = 256;
-
-const IMAGE_LENGTH: u16 = 257;
-
-const BITS_PER_SAMPLE: u16 = 258;
-
-const COMPRESSION: u16 = 259;
-
-const PHOTOMETRIC: u16 = 262;
-
-const SAMPLES_PER_PIXEL: u16 = 277;
-
-const PLANAR_CONFIGURATION: u16 = 284;
-
-const TILE_WIDTH: u16 = 322;
-
-const TILE_LENGTH: u16 = 323;
-
-const TILE_OFFSETS: u16 = 324;
-
-const TILE_BYTE_COUNTS: u16 = 325;
-
-const EXTRA_SAMPLES: u16 = 338;
+use tiff_entries::tag::{
+    BITS_PER_SAMPLE, COMPRESSION, EXTRA_SAMPLES, IMAGE_LENGTH, IMAGE_WIDTH, NEW_SUBFILE_TYPE,
+    PHOTOMETRIC, PLANAR_CONFIGURATION, SAMPLES_PER_PIXEL, TILE_BYTE_COUNTS, TILE_LENGTH,
+    TILE_OFFSETS, TILE_WIDTH,
+};
 
 /// Compression: none.
 const UNCOMPRESSED: u32 = 1;

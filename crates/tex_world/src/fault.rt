@@ -25,7 +25,7 @@ impl From<AllocError> for NoMemory {
 pub enum EnterError {
     /// An I/O error.
     Failed,
-    /// The folder has more than 4096 files.
+    /// The folder has more than `MAX_FILES` files.
     TooMany,
     /// Out of memory.
     NoMemory,

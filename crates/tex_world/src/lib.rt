@@ -35,4 +35,4 @@ pub use sink::Sink;
 pub use table::{FIRST_GENERATION, FileTable, LAST_GENERATION, TableWorld, number_of};
 pub use tap::{Tap, TapHandle};
 pub use tap_counters::TapCounters;
-pub use world::World;
+pub use world::{MAX_FILES, World};

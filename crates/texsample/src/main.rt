@@ -3,7 +3,8 @@
 #![tactic(auto)]
 
 use host_folder::RealSink;
-use sample_run::{NO_MEMORY, NOT_WRITTEN, sample};
+use render_run::{NO_MEMORY, NOT_WRITTEN};
+use sample_run::sample;
 use std::io::ErrorKind;
 use std::process::ExitCode;
 use std::sync::Wait;

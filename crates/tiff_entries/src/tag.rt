@@ -1,8 +1,11 @@
-//! The tags that are read, and the defaults of their fields (TIFF 6.0, section 8).
+//! The tags that are read or written, and the defaults of their fields (TIFF 6.0, section 8).
 
 ghost use Rattle.std.specs.Prelude.{◌≡◌};
 ghost use Rattle.std.specs.Option.{option_to_list};
 ghost use Rattle.tiff_format.specs.Field.{default_of};
+
+/// Written only.
+pub const NEW_SUBFILE_TYPE: u16 = 254;
 
 pub const IMAGE_WIDTH: u16 = 256;
 
@@ -28,9 +31,15 @@ pub const TILE_LENGTH: u16 = 323;
 
 pub const TILE_OFFSETS: u16 = 324;
 
+/// Written only.
+pub const TILE_BYTE_COUNTS: u16 = 325;
+
+/// Written only.
+pub const EXTRA_SAMPLES: u16 = 338;
+
 pub const SAMPLE_FORMAT: u16 = 339;
 
-/// The number of tags.
+/// The number of tags that are read.
 pub const TAG_COUNT: usize = 13;
 
 /// All tags that are read.
